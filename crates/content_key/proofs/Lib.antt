@@ -1,0 +1,4 @@
+pub mod Reversal
+pub mod Listing
+pub mod Keys
+pub mod Ids

@@ -1,0 +1,59 @@
+-- The id of a key byte by byte: the two lightest bytes of the number, heavier one first, then the six others, lightest first, each
+-- reversed.
+-- Assumes nothing.
+use mathlib.Core.Path.{_≡_, refl, sym, _∙_, ap, subst⁻¹}
+use mathlib.Core.List.{List, [], _∷_, _++_, map}
+use Prim.Native.Nat.{ℕ, zero, suc, _+_, _*_, _/_, _%_, _^_, _<_, _≤_}
+use native.Mathlib.Omega.{arith}
+use lib.ListN.{length, length-map, replicate, getD, drop}
+use Rattle.octets.specs.Bytes.{Bytes, be, le, beBytes}
+use Rattle.octets.proofs.Numbers.{beBytes-be, bytes-drop, bytes-at}
+use Rattle.content_key.specs.Id.{reverseBits, idOf}
+use Rattle.content_key.specs.Key.{keyId}
+use Rattle.octets.proofs.Listed.{listed, listed-drop}
+use Rattle.content_key.proofs.Reversal.{reverse-lt, reverse-bytes, bits}
+
+-- two bytes of a number
+beBytes-two : (a b : ℕ) → a < 256 → b < 256 → beBytes 2 (a + 256 * b) ≡ b ∷ a ∷ []
+unfolding beBytes
+beBytes-two a b ha hb =
+    let low : (a + 256 * b) % 256 ≡ a = omega arith in
+    let high : (a + 256 * b) / 256 ≡ b = omega arith in
+    let byte : b % 256 ≡ b = omega arith in
+    rw (low, high, byte)
+
+bytes-reversed : (xs : List ℕ) → Bytes (map (reverseBits 8) xs)
+bytes-reversed [] = tt
+bytes-reversed (x ∷ xs) = (reverse-lt 8 x, bytes-reversed xs)
+
+-- six bytes of a number whose bits are reversed
+beBytes-reversed : (xs : List ℕ) → Bytes xs → beBytes (length xs) (reverseBits (bits xs) (le xs)) ≡ map (reverseBits 8) xs
+beBytes-reversed xs h =
+    rw (reverse-bytes xs h, ← length-map xs (reverseBits 8)) (beBytes-be (map (reverseBits 8) xs) (bytes-reversed xs))
+
+bits-six : (xs : List ℕ) → length xs ≡ 6 → bits xs ≡ 48
+bits-six xs h = bits-length xs ∙ omega arith
+  where
+    bits-length : (xs : List ℕ) → bits xs ≡ 8 * length xs
+    bits-length [] = refl
+    bits-length (x ∷ xs) = omega (arith, bits-length xs)
+
+-- the id of the number whose bytes are a, b and then xs, lightest first
+pub id-bytes : (s a b : ℕ) (xs : List ℕ) → a < 256 → b < 256 → Bytes xs → length xs ≡ 6
+    → idOf s (a + 256 * (b + 256 * le xs)) ≡ b ∷ a ∷ (map (reverseBits 8) xs ++ replicate 23 0 ++ (s ∷ []))
+unfolding idOf
+id-bytes s a b xs ha hb hx h =
+    let low : (a + 256 * (b + 256 * le xs)) % 65536 ≡ a + 256 * b = omega arith in
+    let high : (a + 256 * (b + 256 * le xs)) / 65536 ≡ le xs = omega arith in
+    let six : beBytes 6 (reverseBits 48 (le xs)) ≡ map (reverseBits 8) xs = rw (← bits-six xs h, ← h) (beBytes-reversed xs hx) in
+    rw (low, high, beBytes-two a b ha hb, six)
+
+-- the id of a key of nine bytes, byte by byte
+pub id-listing : (key : List ℕ) → Bytes key → length key ≡ 9
+    → keyId key ≡ getD key 2 0 ∷ getD key 1 0 ∷ (map (reverseBits 8) (listed 6 3 key) ++ replicate 23 0 ++ (getD key 0 0 ∷ []))
+unfolding le
+id-listing key h n =
+    let rest : listed 6 3 key ≡ drop 3 key = listed-drop 6 3 key (omega arith) in
+    ap (λ (l : List ℕ). idOf (getD key 0 0) (le l)) (sym (listed-drop 8 1 key (omega arith)))
+    ∙ id-bytes (getD key 0 0) (getD key 1 0) (getD key 2 0) (listed 6 3 key) (bytes-at key h 1) (bytes-at key h 2)
+    (subst⁻¹ Bytes rest (bytes-drop 3 key h)) refl

@@ -1,0 +1,76 @@
+-- `content_key::key` meets its contract: each test that led to a `return` is a case of `keyOf`, and nine bytes written out are the list.
+-- Assumes nothing.
+use borrow.Author.Needs.{needs}
+use denote.Ref.{now}
+use mathlib.Core.Path.{sym, _∙_, ap}
+use Rattle.refusal.specs.Outcome.{given, orZeros}
+use Rattle.content_key.proofs.Keys.{key-length, key-selector, key-given}
+use Rattle.octets.proofs.Listed.{listed-all}
+use Rattle.content_key.proofs.key.Statement.{statement}
+use Rattle.content_key.proofs.key.Tie as tie
+
+returns : tie.Need-returns
+returns c =
+    let e = key-length (now (c .before .args .bytes)) (c .if1 .taken) in
+    (sym e, ap (orZeros 9) (sym e))
+
+shared-slice-read-if2 : tie.Need-shared-slice-read-if2
+shared-slice-read-if2 c = search needs
+
+returns-2 : tie.Need-returns-2
+returns-2 c =
+    let e = key-selector (now (c .before .before .before .args .bytes)) (c .before .before .if1 .left) (c .if2 .taken) in
+    (sym e, ap (orZeros 9) (sym e))
+
+shared-slice-read-t9 : tie.Need-shared-slice-read-t9
+shared-slice-read-t9 c = search needs
+
+shared-slice-read-t15 : tie.Need-shared-slice-read-t15
+shared-slice-read-t15 c = search needs
+
+shared-slice-read-t17 : tie.Need-shared-slice-read-t17
+shared-slice-read-t17 c = search needs
+
+shared-slice-read-t19 : tie.Need-shared-slice-read-t19
+shared-slice-read-t19 c = search needs
+
+shared-slice-read-t21 : tie.Need-shared-slice-read-t21
+shared-slice-read-t21 c = search needs
+
+shared-slice-read-t23 : tie.Need-shared-slice-read-t23
+shared-slice-read-t23 c = search needs
+
+shared-slice-read-t25 : tie.Need-shared-slice-read-t25
+shared-slice-read-t25 c = search needs
+
+shared-slice-read-t27 : tie.Need-shared-slice-read-t27
+shared-slice-read-t27 c = search needs
+
+shared-slice-read-t29 : tie.Need-shared-slice-read-t29
+shared-slice-read-t29 c = search needs
+
+returns-3 : tie.Need-returns-3
+returns-3 c =
+    let s = c .before .before .before .before .before .before .before .before .before .before .before .before .args .bytes in
+    let n = c .before .before .before .before .before .before .before .before .before .before .before .if1 .left in
+    let e = key-given (now s) n (c .before .before .before .before .before .before .before .before .before .if2 .left) in
+    let l = listed-all 9 (now s) n in
+    (ap given l ∙ sym e, l ∙ ap (orZeros 9) (sym e))
+
+pub key-spec : {M : Type 1} → statement M
+key-spec =
+    tie.close
+    (tie.spec
+    returns
+    shared-slice-read-if2
+    returns-2
+    shared-slice-read-t9
+    shared-slice-read-t15
+    shared-slice-read-t17
+    shared-slice-read-t19
+    shared-slice-read-t21
+    shared-slice-read-t23
+    shared-slice-read-t25
+    shared-slice-read-t27
+    shared-slice-read-t29
+    returns-3)

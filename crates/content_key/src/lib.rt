@@ -1,0 +1,139 @@
+// Content keys of the History Network: a key from any bytes, its content id, and the interest test.
+ghost use Prim.Native.Nat.{_≤_};
+ghost use mathlib.Core.Path.{_≡_};
+ghost use mathlib.Core.List.{List};
+ghost use Rattle.refusal.specs.Outcome.{outcome, orZeros};
+ghost use Rattle.content_key.specs.Id.{reverseBits};
+ghost use Rattle.content_key.specs.Key.{keyOf, keyId, contentIdOf, interestedIn, interestOf};
+use refusal::Checked;
+use refusal::Refusal;
+
+// A key of nine bytes where the input is one, and zeros beside the refusal where it is not.
+pub struct KeyAnswer {
+    pub checked: Checked,
+    pub key: [u8; 9],
+}
+
+// A content id, or zeros beside the refusal.
+pub struct IdAnswer {
+    pub checked: Checked,
+    pub id: [u8; 32],
+}
+
+pub enum Interest {
+    Yes,
+    No,
+    Refused(Refusal),
+}
+
+// Any bytes as a key.
+pub fn key(bytes: &[u8]) -> KeyAnswer
+    ensures { λ r. ⌜ outcome (r .checked) (r .key) ≡ keyOf (now (bytes .entry)) ⌝ }
+    ensures { λ r. ⌜ r .key ≡ orZeros 9 (keyOf (now (bytes .entry))) ⌝ }
+{
+    if bytes.len() != 9 {
+        return KeyAnswer {
+            checked: Checked::Refused(Refusal::KeyLength),
+            key: [0u8; 9],
+        };
+    }
+    if 1 < bytes[0] {
+        return KeyAnswer {
+            checked: Checked::Refused(Refusal::KeySelector),
+            key: [0u8; 9],
+        };
+    }
+    let key = [
+        bytes[0],
+        bytes[1],
+        bytes[2],
+        bytes[3],
+        bytes[4],
+        bytes[5],
+        bytes[6],
+        bytes[7],
+        bytes[8],
+    ];
+    KeyAnswer {
+        checked: Checked::Accepted,
+        key,
+    }
+}
+
+// The content id of a key: the two lightest bytes of the block number, heavier one first, then its six others, lightest first, each
+// with its bits in reversed order.
+pub fn id(key: [u8; 9]) -> [u8; 32]
+    ensures { λ r. ⌜ r ≡ keyId key ⌝ }
+{
+    let mut id = [0u8; 32];
+    id[0] = key[2];
+    id[1] = key[1];
+    id[2] = reversed(key[3]);
+    id[3] = reversed(key[4]);
+    id[4] = reversed(key[5]);
+    id[5] = reversed(key[6]);
+    id[6] = reversed(key[7]);
+    id[7] = reversed(key[8]);
+    id[31] = key[0];
+    id
+}
+
+// The content id of any bytes as a key.
+pub fn content_id(bytes: &[u8]) -> IdAnswer
+    ensures { λ r. ⌜ outcome (r .checked) (r .id) ≡ contentIdOf (now (bytes .entry)) ⌝ }
+    ensures { λ r. ⌜ r .id ≡ orZeros 32 (contentIdOf (now (bytes .entry))) ⌝ }
+{
+    let read = key(bytes);
+    let checked = read.checked;
+    match checked {
+        Checked::Accepted => {
+            let nine = read.key;
+            let found = id(nine);
+            IdAnswer {
+                checked: Checked::Accepted,
+                id: found,
+            }
+        }
+        Checked::Refused(why) => {
+            let zeros = [0u8; 32];
+            IdAnswer {
+                checked: Checked::Refused(why),
+                id: zeros,
+            }
+        }
+    }
+}
+
+// Whether a node with this id and radius is interested in a key: its distance is at most the radius.
+pub fn interested(node: [u8; 32], radius: [u8; 32], bytes: &[u8]) -> Interest
+    ensures { λ r. ⌜ interestOf r ≡ interestedIn node radius (now (bytes .entry)) ⌝ }
+{
+    let read = key(bytes);
+    let checked = read.checked;
+    match checked {
+        Checked::Accepted => {
+            let nine = read.key;
+            if distance::within(node, id(nine), radius) {
+                Interest::Yes
+            } else {
+                Interest::No
+            }
+        }
+        Checked::Refused(why) => Interest::Refused(why),
+    }
+}
+
+// A byte with its bits in reversed order.
+fn reversed(b: u8) -> u8
+    ensures { λ r. ⌜ r ≡ reverseBits 8 b ⌝ }
+{
+    let b1 = b / 2;
+    let b2 = b1 / 2;
+    let b3 = b2 / 2;
+    let b4 = b3 / 2;
+    let b5 = b4 / 2;
+    let b6 = b5 / 2;
+    let b7 = b6 / 2;
+    let heavy = b % 2 * 128 + b1 % 2 * 64 + b2 % 2 * 32 + b3 % 2 * 16;
+    heavy + b4 % 2 * 8 + b5 % 2 * 4 + b6 % 2 * 2 + b7 % 2
+}

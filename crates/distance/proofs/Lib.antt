@@ -1,0 +1,2 @@
+pub mod Exclusive
+pub mod Logarithm

@@ -1,0 +1,168 @@
+-- What one turn of each loop does, of the pass that tests the characters and of the two that write; and what each way out
+-- of `encode` and `decode` answers and leaves.
+use Prim.Native.Nat.{ℕ, zero, suc, _+_, _-_, _*_, _/_, _%_, _≤_, _<_}
+use mathlib.Core.Bool.{Bool, true, false, cond, _&&_, and-eq-true-iff, false≢true}
+use mathlib.Core.List.{List, [], _∷_, _++_}
+use mathlib.Core.Option.{Option, some, none}
+use mathlib.Core.Path.{_≡_, refl, ap, ap₂, sym, _∙_}
+use native.Mathlib.Nat.{zero-add}
+use native.Mathlib.Numerals.{add-one}
+use native.Mathlib.Omega.{arith}
+use lib.ListN.{length, getD, take, drop, set}
+use lib.Seq.{drop-cons, take-length, paste, paste-suc}
+use lib.Dec.{leb}
+use borrow.Author.Tests.{le-leb, lt-leb, leb-true}
+use Rattle.hex.specs.Digits.{digitOf, valueOf, textOf, bytesOf, isDigit, numberOf, allDigits}
+use Rattle.hex.specs.Buffer.{hasRoom, encodedTo, decodedTo, decodedOf, filled, filledOf}
+use Rattle.hex.specs.declared.Decoded.the-variants.{Bytes, NotHex, NoRoom}
+use Rattle.hex.specs.declared.Digit.the-variants.{Value, Other}
+use Rattle.hex.proofs.Texts.{length-text, pairsOf}
+
+-- another character at an index ends the test of the rest
+pub other-here : (text : List ℕ) (i : ℕ) → i < length text → valueOf (getD text i 0) ≡ Other
+    → allDigits (drop i text) ≡ false
+other-here text i h e = rw (drop-cons text i 0, e)
+
+-- a digit at an index leaves the test to what follows
+pub digit-here : (text : List ℕ) (i n : ℕ) → i < length text → valueOf (getD text i 0) ≡ Value n
+    → allDigits (drop i text) ≡ allDigits (drop (i + 1) text)
+digit-here text i n h e = rw (add-one, drop-cons text i 0, e)
+
+-- each character of a text of digits is a digit
+pub digit-at : (text : List ℕ) (i : ℕ) → i < length text → allDigits text ≡ true → isDigit (valueOf (getD text i 0)) ≡ true
+digit-at [] i h e = absurd (omega arith)
+digit-at (c ∷ text) zero h e = and-eq-true-iff (isDigit (valueOf c)) (allDigits text) .0 e .0
+digit-at (c ∷ text) (suc i) h e =
+    digit-at text i (omega arith) (and-eq-true-iff (isDigit (valueOf c)) (allDigits text) .0 e .1)
+
+-- one more byte is two more characters
+twice : (i : ℕ) → 2 * suc i ≡ suc (suc (2 * i))
+twice i = omega arith
+
+-- the first character of a byte
+text-high : (bs : List ℕ) (i : ℕ) → i < length bs → getD (textOf bs) (2 * i) 0 ≡ digitOf (getD bs i 0 / 16)
+text-high [] i h = absurd (omega arith)
+text-high (b ∷ bs) zero h = refl
+text-high (b ∷ bs) (suc i) h = rw (twice i) (text-high bs i (omega arith))
+
+-- the second character of a byte
+text-low : (bs : List ℕ) (i : ℕ) → i < length bs → getD (textOf bs) (suc (2 * i)) 0 ≡ digitOf (getD bs i 0 % 16)
+text-low [] i h = absurd (omega arith)
+text-low (b ∷ bs) zero h = refl
+text-low (b ∷ bs) (suc i) h = rw (twice i) (text-low bs i (omega arith))
+
+-- two stores take the text of i bytes to that of i + 1
+pub put-text : (d : List ℕ) (at : ℕ) (bs : List ℕ) (i : ℕ) → i < length bs → at + 2 * length bs ≤ length d
+    → (out : List ℕ) → out ≡ paste d at (textOf bs) (2 * i)
+    → (h l : ℕ) → h ≡ digitOf (getD bs i 0 / 16) → l ≡ digitOf (getD bs i 0 % 16)
+    → set (set out (at + 2 * i) h) (at + 2 * i + 1) l ≡ paste d at (textOf bs) (2 * (i + 1))
+put-text d at bs i small room out before h l of-h of-l =
+    let s : List ℕ = textOf bs in
+    let n : length s ≡ 2 * length bs = length-text bs in
+    let there : at + 2 * i + 1 ≡ at + suc (2 * i) = omega arith in
+    let next : suc (suc (2 * i)) ≡ 2 * (i + 1) = omega arith in
+    ap (λ (q : List ℕ). set (set q (at + 2 * i) h) (at + 2 * i + 1) l) before
+    ∙ ap₂ (λ (x y : ℕ). set (set (paste d at s (2 * i)) (at + 2 * i) x) (at + 2 * i + 1) y)
+    (of-h ∙ sym (text-high bs i small)) (of-l ∙ sym (text-low bs i small))
+    ∙ ap (λ (q : List ℕ). set q (at + 2 * i + 1) (getD s (suc (2 * i)) 0))
+    (paste-suc d at s (2 * i) 0 (omega arith) (omega arith))
+    ∙ ap (λ (k : ℕ). set (paste d at s (suc (2 * i))) k (getD s (suc (2 * i)) 0)) there
+    ∙ paste-suc d at s (suc (2 * i)) 0 (omega arith) (omega arith)
+    ∙ ap (paste d at s) next
+
+-- the byte of two characters
+pair-at : (text : List ℕ) (i : ℕ) → 2 * i + 1 < length text
+    → getD (pairsOf text) i 0 ≡ numberOf (valueOf (getD text (2 * i) 0)) * 16 + numberOf (valueOf (getD text (2 * i + 1) 0))
+pair-at [] i h = absurd (omega arith)
+pair-at (c ∷ []) i h = absurd (omega arith)
+pair-at (c ∷ l ∷ text) zero h = refl
+pair-at (c ∷ l ∷ text) (suc i) h = rw (add-one, twice i) (rw add-one at (pair-at text i (omega arith)))
+
+-- two characters make a byte
+pub length-pairs : (text : List ℕ) → length (pairsOf text) ≡ length text / 2
+length-pairs [] = refl
+length-pairs (c ∷ []) = refl
+length-pairs (c ∷ l ∷ text) = let rest = length-pairs text in omega arith
+
+-- a store takes the first i bytes to the first i + 1
+pub put-byte : (d text : List ℕ) (i : ℕ) → i < length text / 2 → i < length d
+    → (out : List ℕ) → out ≡ take i (pairsOf text) ++ drop i d
+    → (h l : ℕ) → h ≡ numberOf (valueOf (getD text (2 * i) 0)) → l ≡ numberOf (valueOf (getD text (2 * i + 1) 0))
+    → set out i (h * 16 + l) ≡ take (i + 1) (pairsOf text) ++ drop (i + 1) d
+put-byte d text i small room out before h l of-h of-l =
+    let s : List ℕ = pairsOf text in
+    let n = length-pairs text in
+    ap₂ (λ (q : List ℕ) (x : ℕ). set q i x) before
+    (ap₂ (λ (x y : ℕ). x * 16 + y) of-h of-l ∙ sym (pair-at text i (omega arith)))
+    ∙ rw add-one (simp zero-add at (paste-suc d 0 s i 0 (omega arith) (omega arith)))
+
+-- where the text has no room, the answer is false and the buffer is as it was
+pub refused : (d : List ℕ) (at : ℕ) (bs : List ℕ) → hasRoom d at (textOf bs) ≡ false
+    → (false ≡ hasRoom d at (textOf bs)) × (d ≡ encodedTo bs d at)
+refused d at bs e =
+    (sym e, sym (ap (λ (b : Bool). cond b (take at d ++ textOf bs ++ drop (at + length (textOf bs)) d) d) e))
+
+-- where the text has room, the answer is true and the buffer has all of the text
+pub accepted : (d : List ℕ) (at : ℕ) (bs : List ℕ) (i : ℕ) → i ≡ length bs → hasRoom d at (textOf bs) ≡ true
+    → (true ≡ hasRoom d at (textOf bs)) × (paste d at (textOf bs) (2 * i) ≡ encodedTo bs d at)
+accepted d at bs i last e =
+    let n : 2 * i ≡ length (textOf bs) = omega (arith, length-text bs) in (
+      sym e,
+      ap (paste d at (textOf bs)) n
+          ∙ ap (λ (l : List ℕ). take at d ++ l ++ drop (at + length (textOf bs)) d) (take-length (textOf bs))
+          ∙ sym (ap (λ (b : Bool). cond b (take at d ++ textOf bs ++ drop (at + length (textOf bs)) d) d) e),
+    )
+
+-- the text starts past the buffer
+pub past-end : (d : List ℕ) (at : ℕ) (bs : List ℕ) → length d < at → hasRoom d at (textOf bs) ≡ false
+past-end d at bs h = simp (lt-leb at (length d) h)
+
+-- the text does not fit behind its start
+pub too-long : (d : List ℕ) (at : ℕ) (bs : List ℕ) → at ≤ length d → (length d - at) / 2 < length bs
+    → hasRoom d at (textOf bs) ≡ false
+too-long d at bs h l =
+    let n : length d - at < length (textOf bs) = omega (arith, length-text bs) in
+    simp (le-leb at (length d) h, lt-leb (length (textOf bs)) (length d - at) n)
+
+-- the text fits behind its start
+pub fits : (d : List ℕ) (at : ℕ) (bs : List ℕ) → at + 2 * length bs ≤ length d → hasRoom d at (textOf bs) ≡ true
+fits d at bs h =
+    let n : length (textOf bs) ≤ length d - at = omega (arith, length-text bs) in
+    let m : at ≤ length d = omega arith in
+    simp (le-leb at (length d) m, le-leb (length (textOf bs)) (length d - at) n)
+
+-- what a text that stands for nothing answers, and leaves
+pub not-hex : (text d : List ℕ) → bytesOf text ≡ none → (NotHex ≡ decodedOf text d) × (d ≡ filledOf text d)
+not-hex text d e =
+    (sym (ap (λ (o : Option (List ℕ)). decodedTo o (length d)) e), sym (ap (λ (o : Option (List ℕ)). filled o d) e))
+
+-- what bytes that do not fit answer, and leave
+pub no-room : (text d bs : List ℕ) → bytesOf text ≡ some bs → length d < length bs
+    → (NoRoom ≡ decodedOf text d) × (d ≡ filledOf text d)
+no-room text d bs e h =
+    let t : leb (length bs) (length d) ≡ false = lt-leb (length bs) (length d) h in (
+      sym (ap (λ (o : Option (List ℕ)). decodedTo o (length d)) e ∙ ap (λ (b : Bool). cond b (Bytes (length bs)) NoRoom) t),
+      sym (ap (λ (o : Option (List ℕ)). filled o d) e ∙ ap (λ (b : Bool). cond b (bs ++ drop (length bs) d) d) t),
+    )
+
+-- what bytes that fit answer, and leave
+pub put-all : (text d bs : List ℕ) (n i : ℕ) → n ≡ length bs → i ≡ length bs → bytesOf text ≡ some bs → length bs ≤ length d
+    → (Bytes n ≡ decodedOf text d) × (take i bs ++ drop i d ≡ filledOf text d)
+put-all text d bs n i all last e h =
+    let t : leb (length bs) (length d) ≡ true = le-leb (length bs) (length d) h in (
+      ap Bytes all
+          ∙ sym (ap (λ (o : Option (List ℕ)). decodedTo o (length d)) e ∙ ap (λ (b : Bool). cond b (Bytes (length bs)) NoRoom) t),
+      ap (λ (k : ℕ). take k bs ++ drop k d) last
+          ∙ ap (λ (l : List ℕ). l ++ drop (length bs) d) (take-length bs)
+          ∙ sym (ap (λ (o : Option (List ℕ)). filled o d) e ∙ ap (λ (b : Bool). cond b (bs ++ drop (length bs) d) d) t),
+    )
+
+-- a text that has room ends within the buffer
+pub room-ends : (d : List ℕ) (at : ℕ) (bs : List ℕ) → hasRoom d at (textOf bs) ≡ true → at + 2 * length bs ≤ length d
+room-ends d at bs e = go (leb at (length d)) refl (leb (length (textOf bs)) (length d - at)) refl e
+  where
+    go : (x : Bool) → leb at (length d) ≡ x → (y : Bool) → leb (length (textOf bs)) (length d - at) ≡ y → (x && y) ≡ true
+        → at + 2 * length bs ≤ length d
+    go true p true q h = omega (arith, leb-true at (length d) p, leb-true (length (textOf bs)) (length d - at) q, length-text bs)
+    go true p false q h = absurd (false≢true h)
+    go false p y q h = absurd (false≢true h)

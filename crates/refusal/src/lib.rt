@@ -1,0 +1,69 @@
+// The table of refusals: one enum for every number that a call gives back instead of an answer.
+ghost use mathlib.Core.Path.{_≡_};
+ghost use Rattle.refusal.specs.Number.{numberOf};
+
+// Why a call is refused, in the order of the numbers from 0 to 15.
+pub enum Refusal {
+    // The index handed in breaks its rules.
+    BadIndex,
+    // The message has no bytes.
+    EmptyMessage,
+    // The message has more than 1,280 bytes.
+    LongMessage,
+    // The message's type is not 1 to 9.
+    MessageType,
+    // A container's length or an offset is wrong; or a record to write is not within the bytes lent.
+    Layout,
+    // More than 256 distances or 32 records.
+    TooManyItems,
+    // Another rule on a message's items is broken.
+    ItemRule,
+    // The key does not have nine bytes.
+    KeyLength,
+    // The key's selector is neither 0 nor 1.
+    KeySelector,
+    // The content is not one RLP list that fills its bytes.
+    Content,
+    // The key's distance is over the announced radius.
+    BeyondRadius,
+    // The key is held already.
+    AlreadyHeld,
+    // The key to remove is not held.
+    NotHeld,
+    // The output buffer is too short.
+    ShortBuffer,
+    // The snapshot is bad, first at this line, counted from 1.
+    BadSnapshot { line: usize },
+    // An odd number of digits, or a character that is no lower-case hexadecimal digit.
+    NotHex,
+}
+
+// Whether an input was accepted, beside whatever an accepted one gives.
+pub enum Checked {
+    Accepted,
+    Refused(Refusal),
+}
+
+// The refusal's number in the table.
+pub fn number(why: Refusal) -> u8
+    ensures { λ r. ⌜ r ≡ numberOf why ⌝ }
+{
+    match why {
+        Refusal::BadIndex => 0,
+        Refusal::EmptyMessage => 1,
+        Refusal::LongMessage => 2,
+        Refusal::MessageType => 3,
+        Refusal::Layout => 4,
+        Refusal::TooManyItems => 5,
+        Refusal::ItemRule => 6,
+        Refusal::KeyLength => 7,
+        Refusal::KeySelector => 8,
+        Refusal::Content => 9,
+        Refusal::BeyondRadius => 10,
+        Refusal::AlreadyHeld => 11,
+        Refusal::NotHeld => 12,
+        Refusal::ShortBuffer => 13,
+        Refusal::BadSnapshot { line: _ } => 14,
+        Refusal::NotHex => 15,
+    }
+}

@@ -1,0 +1,100 @@
+"""The inputs that the programs are run on."""
+from history import digits, distance, key_id, make_key
+from stream import Stream
+
+LARGEST = 2**64 - 1
+NUMBERS = [0, 1, 255, 256, 65535, 65536, 65537, 12345678, 2**32 - 1, 2**32, 2**48 - 1, 2**63, LARGEST - 1, LARGEST]
+ONES = 2**256 - 1
+
+
+def good_keys(stream, random):
+    """Keys of both selectors: the numbers above, each power of two, and random ones."""
+    keys = [make_key(s, n) for n in NUMBERS for s in (0, 1)]
+    keys += [make_key(i % 2, 2**i) for i in range(64)]
+    keys += [make_key(stream.below(2), stream.below(2**64)) for _ in range(random)]
+    return keys
+
+
+def bad_keys(stream):
+    """Keys of every wrong length up to 20, of a long one, and with other selectors."""
+    keys = [stream.take(n) for n in range(21) if n != 9] + [stream.take(3000)]
+    return keys + [bytes([s]) + stream.take(8) for s in (2, 3, 0x10, 0x7F, 0x80, 0xFF)]
+
+
+def lister_input():
+    stream = Stream('lister')
+    lines = [k.hex().encode() for k in good_keys(stream, 300) + bad_keys(stream)]
+    good = make_key(1, 12345678).hex().encode()
+    lines += [b'', b'0', good[:-1], good + b'0', good.upper(), b' ' + good, good + b' ', good + b'\r', b'0x' + good, good[:9] + b'\0' + good[10:]]
+    # every character in place of one digit
+    for c in range(256):
+        if c != 10:
+            at = c % 18
+            lines.append(good[:at] + bytes([c]) + good[at + 1 :])
+    # 15 comes before 7 and 8, and 7 before 8
+    lines += [b'zz', b'0z', b'020', b'02', b'03' * 10, b'g' * 18]
+    # lines longer than any buffer, even and odd, good and bad at the first and the last digit
+    long = stream.take(40000).hex().encode()
+    lines += [long, long[:-1], b'x' + long[1:], long[:-1] + b'x', long[:65536], long[:65535]]
+    lines += [b''] * 5 + [good]
+    return b'\n'.join(lines)
+
+
+def console_input():
+    stream = Stream('console')
+    return b'\n'.join(id_lines(stream) + distance_lines(stream) + interest_lines(stream) + no_calls(stream)) + b'\n'
+
+
+def id_lines(stream):
+    return [b'id ' + (k.hex().encode() or b'-') for k in good_keys(stream, 40) + bad_keys(stream)]
+
+
+def distance_line(a, b):
+    return ('distance %s %s' % (digits(a), digits(b))).encode()
+
+
+def distance_lines(stream):
+    lines = [distance_line(0, 2**i) for i in range(256)]
+    for _ in range(40):
+        a, b = (int.from_bytes(stream.take(32), 'big') for _ in range(2))
+        lines += [distance_line(a, b), distance_line(a, a)]
+        # apart in the last byte, in the last bit, and by a random distance of each length
+        lines += [distance_line(a, a ^ stream.below(256)), distance_line(a, a ^ 1)]
+        lines.append(distance_line(a, a ^ (b >> stream.below(256))))
+    return lines
+
+
+def interest_line(node, radius, key):
+    return ('interested %s %s %s' % (digits(node), digits(radius), key.hex() or '-')).encode()
+
+
+def interest_lines(stream):
+    lines = []
+    keys = good_keys(stream, 40)
+    for key in keys:
+        node = int.from_bytes(stream.take(32), 'big')
+        away = distance(node, key_id(key))
+        near = [away, away - 1, away + 1, away ^ 1, away ^ 1 << 255, away ^ 1 << 248]
+        lines += [interest_line(node, r, key) for r in near + [0, ONES] if 0 <= r <= ONES]
+        # the distance read with the lightest byte first says the opposite here
+        lines.append(interest_line(node, int.from_bytes(away.to_bytes(32, 'big'), 'little'), key))
+    lines += [interest_line(key_id(k), 0, k) for k in keys[:20]]
+    lines += [interest_line(0, stream.pick([0, ONES]), k) for k in bad_keys(stream)]
+    return lines
+
+
+def no_calls(stream):
+    """Lines that are no call, some of them too long, with good ones after them."""
+    good = distance_line(1, 3)
+    lines = [b'', b' ', b'-', b'id', b'id ', b' id 00', b'id  00', b'id 00 ', b'id 00 00', b'id 0', b'id zz', b'ID 00', b'id\t00', b'id 0A', b'ids 00']
+    lines += [b'distance', b'distance 00 00', good[:-1], good + b'0', good + b' ', good + b' 00', good.replace(b' ', b'  '), good.upper()]
+    lines += [b'distance - -', b'interested - - -', b'interested ' + b'00' * 32, b'interested ' + b'00' * 33 + b' ' + b'00' * 31 + b' 00']
+    lines += [b'id ' + b'00' * 32766, b'id ' + b'00' * 32767, b'id ' + b'0' * 65533, b'x' * 65536, b'x' * 65537, b' ' * 70000, good]
+    for _ in range(200):
+        lines.append(stream.take(stream.below(60)).replace(b'\n', b' '))
+    # a good line with one byte changed
+    for _ in range(200):
+        line = bytearray(stream.pick([good, b'id 014e61bc0000000000']))
+        line[stream.below(len(line))] = stream.pick(b'0189afgz -\t\0\xff')
+        lines.append(bytes(line))
+    return lines + [good]

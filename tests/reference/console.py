@@ -1,0 +1,62 @@
+"""The console's answers: one line of text for each line read."""
+from history import Refused, digits, distance, interested, key_id, log_distance, unhex
+
+LONGEST = 65536
+
+
+class NoCall(Exception):
+    """The line is no call."""
+
+
+def data(word):
+    """The bytes of a word: lower-case hexadecimal, or `-` for none."""
+    if word == b'-':
+        return b''
+    found = unhex(word)
+    if not word or found is None:
+        raise NoCall
+    return found
+
+
+def value(word):
+    """A word of 32 bytes, as a number with the first byte heaviest."""
+    found = data(word)
+    if len(found) != 32:
+        raise NoCall
+    return int.from_bytes(found, 'big')
+
+
+class Console:
+    def id(self, key):
+        return 'id ' + digits(key_id(data(key)))
+
+    def distance(self, a, b):
+        a, b = value(a), value(b)
+        return 'distance %s class %d' % (digits(distance(a, b)), log_distance(a, b))
+
+    def interested(self, node, radius, key):
+        node, radius, key = value(node), value(radius), data(key)
+        return 'yes' if interested(node, radius, key_id(key)) else 'no'
+
+    # each call's word, its function, and how many words follow
+    CALLS = {b'id': (id, 1), b'distance': (distance, 2), b'interested': (interested, 3)}
+
+    def answer(self, line):
+        name, *words = line.split(b' ')
+        call, count = self.CALLS.get(name, (None, None))
+        try:
+            if call is None or len(words) != count or len(line) > LONGEST:
+                raise NoCall
+            return call(self, *words)
+        except NoCall:
+            return 'error'
+        except Refused as why:
+            return 'refused %d' % why.number + ('' if why.line is None else ' %d' % why.line)
+
+
+def output(text):
+    lines = text.split(b'\n')
+    if lines[-1] == b'':
+        lines.pop()
+    console = Console()
+    return ''.join(console.answer(line) + '\n' for line in lines).encode()

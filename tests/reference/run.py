@@ -1,0 +1,42 @@
+#!/usr/bin/env python3
+"""The second program: computes what the programs must answer, from the papers alone.
+
+usage: run.py make     write the stored inputs and outputs of the programs
+       run.py check    say whether what is stored is what this program computes
+"""
+import sys
+from pathlib import Path
+
+import cases
+import console
+import lister
+
+CRATES = Path(__file__).resolve().parents[2] / 'crates'
+
+
+def stored():
+    """Each file that is stored, and what it must hold."""
+    for crate, made, answers in (
+        ('content_ids', cases.lister_input(), lister.output),
+        ('console', cases.console_input(), console.output),
+    ):
+        yield CRATES / crate / 'stdin', made
+        yield CRATES / crate / 'stdout', answers(made)
+
+
+def main():
+    if sys.argv[1:] not in (['make'], ['check']):
+        sys.exit(__doc__)
+    wrong = 0
+    for path, wanted in stored():
+        if sys.argv[1] == 'make':
+            path.write_bytes(wanted)
+        elif not path.exists() or path.read_bytes() != wanted:
+            print('not what the second program computes:', path.relative_to(CRATES.parent))
+            wrong += 1
+    if sys.argv[1] == 'check':
+        print('second program: %s' % ('all stored files agree' if wrong == 0 else '%d files differ' % wrong))
+    sys.exit(wrong != 0)
+
+
+main()

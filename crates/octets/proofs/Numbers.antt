@@ -4,12 +4,12 @@ use Prim.Native.Nat.{ℕ, zero, suc, _+_, _*_, _/_, _%_, _^_, _<_}
 use native.Mathlib.Nat.{suc-inj, suc-ne-zero, pow-suc, pow-succ', mod-one, mod-lt, mod-eq-of-lt, one-le-pow}
 use native.Mathlib.Omega.{arith}
 use mathlib.Core.Path.{_≡_, refl, sym, ap, ap₂, _∙_}
-use mathlib.Core.List.{List, [], _∷_, _++_}
+use mathlib.Core.List.{List, [], _∷_, _++_, reverse, reverseAux}
 use lib.Dec.{lit<}
 use lib.Arith.{digits-lt, digits-div, digits-mod, mod-mul}
 use lib.Pow.{pow-add}
 use lib.ListN.{length, getD, take, drop, replicate, length-append}
-use Rattle.octets.specs.Bytes.{Bytes, be, le, beBytes}
+use Rattle.octets.specs.Bytes.{Bytes, be, le, beBytes, leBytes}
 
 -- a list is bytes if each place holds less than 256
 pub bytes-all : (xs : List ℕ) → ((i : ℕ) → getD xs i 0 < 256) → Bytes xs
@@ -38,6 +38,14 @@ pub bytes-drop : (n : ℕ) (xs : List ℕ) → Bytes xs → Bytes (drop n xs)
 bytes-drop zero xs h = h
 bytes-drop (suc n) [] h = tt
 bytes-drop (suc n) (x ∷ xs) h = bytes-drop n xs (h .1)
+
+-- bytes in the other order are bytes
+pub bytes-reverse : (xs : List ℕ) → Bytes xs → Bytes (reverse xs)
+bytes-reverse xs h = onto xs [] h tt
+  where
+    onto : (xs ys : List ℕ) → Bytes xs → Bytes ys → Bytes (reverseAux xs ys)
+    onto [] ys h k = k
+    onto (x ∷ xs) ys h k = onto xs (x ∷ ys) (h .1) (h .0, k)
 
 -- zeros are bytes
 pub bytes-zeros : (n : ℕ) → Bytes (replicate n 0)
@@ -145,3 +153,34 @@ le-inj (x ∷ xs) [] l h k e = absurd (suc-ne-zero (length xs) l)
 le-inj (x ∷ xs) (y ∷ ys) l h k e =
     ap₂ (λ (z : ℕ) (zs : List ℕ). z ∷ zs) (omega arith)
     (le-inj xs ys (suc-inj l) (h .1) (k .1) (omega arith))
+
+-- the last k bytes, lightest first, are k
+pub leBytes-length : (k n : ℕ) → length (leBytes k n) ≡ k
+unfolding leBytes
+leBytes-length zero n = refl
+leBytes-length (suc k) n = ap suc (leBytes-length k (n / 256))
+
+-- the last k bytes, lightest first, are bytes
+pub leBytes-bytes : (k n : ℕ) → Bytes (leBytes k n)
+unfolding leBytes
+leBytes-bytes zero n = tt
+leBytes-bytes (suc k) n = (mod-lt n (lit< tt), leBytes-bytes k (n / 256))
+
+-- the last k bytes, lightest first, stand for the number below 256 ^ k
+pub le-leBytes : (k n : ℕ) → le (leBytes k n) ≡ n % 256 ^ k
+unfolding le leBytes
+le-leBytes zero n = sym (mod-one n)
+le-leBytes (suc k) n =
+    ap (λ (m : ℕ). n % 256 + 256 * m) (le-leBytes k (n / 256))
+    ∙ omega (arith, mod-mul n {m = 256 ^ k} {c = 256} (one-le-pow k 256 (lit< tt)) (lit< tt))
+    ∙ ap (λ (m : ℕ). n % m) (sym (pow-suc 256 k))
+
+-- a number below 256 ^ k comes back from its last k bytes, lightest first
+pub le-leBytes-below : (k n : ℕ) → n < 256 ^ k → le (leBytes k n) ≡ n
+le-leBytes-below k n h = le-leBytes k n ∙ mod-eq-of-lt h
+
+-- bytes, lightest first, come back from their number
+pub leBytes-le : (xs : List ℕ) → Bytes xs → leBytes (length xs) (le xs) ≡ xs
+leBytes-le xs h =
+    le-inj (leBytes (length xs) (le xs)) xs (leBytes-length (length xs) (le xs)) (leBytes-bytes (length xs) (le xs)) h
+    (le-leBytes-below (length xs) (le xs) (le-lt xs h))

@@ -22,3 +22,8 @@ le (x ∷ xs) = x + 256 * le xs
 unfoldable pub beBytes : ℕ → ℕ → List ℕ
 beBytes zero n = []
 beBytes (suc k) n = beBytes k (n / 256) ++ (n % 256 ∷ [])
+
+-- the last k bytes of a number, lightest first
+unfoldable pub leBytes : ℕ → ℕ → List ℕ
+leBytes zero n = []
+leBytes (suc k) n = n % 256 ∷ leBytes k (n / 256)

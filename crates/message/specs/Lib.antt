@@ -1,0 +1,6 @@
+pub mod Values
+pub mod Encode
+pub mod Records
+pub mod Rules
+pub mod Decode
+pub mod Reading

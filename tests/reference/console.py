@@ -1,4 +1,6 @@
 """The console's answers: one line of text for each line read."""
+import messages
+import rlp
 from history import Refused, digits, distance, interested, key_id, log_distance, unhex
 
 LONGEST = 65536
@@ -38,8 +40,16 @@ class Console:
         node, radius, key = value(node), value(radius), data(key)
         return 'yes' if interested(node, radius, key_id(key)) else 'no'
 
+    def content(self, content):
+        if not rlp.acceptable(data(content)):
+            raise Refused(9)
+        return 'accepted'
+
+    def read(self, message):
+        return messages.words(*messages.read(data(message)))
+
     # each call's word, its function, and how many words follow
-    CALLS = {b'id': (id, 1), b'distance': (distance, 2), b'interested': (interested, 3)}
+    CALLS = {b'id': (id, 1), b'distance': (distance, 2), b'interested': (interested, 3), b'content': (content, 1), b'read': (read, 1)}
 
     def answer(self, line):
         name, *words = line.split(b' ')

@@ -23,6 +23,14 @@ pub fn digits(out: &mut [u8], at: usize, bytes: &[u8]) -> usize {
     }
 }
 
+// Bytes in a word: `-` for none.
+pub fn bytes(out: &mut [u8], at: usize, bytes: &[u8]) -> usize {
+    if bytes.len() == 0 {
+        return text(out, at, b"-");
+    }
+    digits(out, at, bytes)
+}
+
 pub fn decimal(out: &mut [u8], at: usize, n: u64) -> usize {
     let mut digits = [0u8; 20];
     let k = io::decimal(n, &mut digits);

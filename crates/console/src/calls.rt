@@ -1,86 +1,48 @@
-// The calls that a line can make.
+// The calls that a line can make, by its first word.
 use crate::answer;
+use crate::keys;
+use crate::messages;
 use crate::words;
-use crate::words::Words;
-use content_key::Interest;
-use hex::Decoded;
-use refusal::Checked;
+
+enum Call {
+    Id,
+    Distance,
+    Interested,
+    Content,
+    Read,
+    None,
+}
 
 // Does what the line asks, and puts the answer into out.
 pub fn answer(line: &[u8], data: &mut [u8], out: &mut [u8]) -> usize {
     let words = words::split(line);
-    let name = words::word(line, words, 0);
+    let call = call_of(words::word(line, words, 0));
+    match call {
+        Call::Id => keys::id(line, words, data, out),
+        Call::Distance => keys::distance(line, words, out),
+        Call::Interested => keys::interested(line, words, data, out),
+        Call::Content => messages::content(line, words, data, out),
+        Call::Read => messages::read(line, words, data, out),
+        Call::None => answer::error(out),
+    }
+}
+
+// The call that a word names.
+fn call_of(name: &[u8]) -> Call {
     if check::same(name, b"id") {
-        id(line, words, data, out)
-    } else if check::same(name, b"distance") {
-        distance(line, words, out)
-    } else if check::same(name, b"interested") {
-        interested(line, words, data, out)
-    } else {
-        answer::error(out)
+        return Call::Id;
     }
-}
-
-// id KEY
-fn id(line: &[u8], words: Words, data: &mut [u8], out: &mut [u8]) -> usize {
-    if words.count != 2 {
-        return answer::error(out);
+    if check::same(name, b"distance") {
+        return Call::Distance;
     }
-    let Decoded::Bytes(n) = words::bytes(words::word(line, words, 1), data) else {
-        return answer::error(out);
-    };
-    let found = content_key::content_id(words::front(data, n));
-    let checked = found.checked;
-    match checked {
-        Checked::Accepted => {
-            let id = found.id;
-            let at = answer::text(out, 0, b"id ");
-            let last = answer::digits(out, at, &id);
-            answer::end(out, last)
-        }
-        Checked::Refused(why) => answer::refused(out, why),
+    if check::same(name, b"interested") {
+        return Call::Interested;
     }
-}
-
-// distance A B
-fn distance(line: &[u8], words: Words, out: &mut [u8]) -> usize {
-    if words.count != 3 {
-        return answer::error(out);
+    if check::same(name, b"content") {
+        return Call::Content;
     }
-    let a = words::value(words::word(line, words, 1));
-    let b = words::value(words::word(line, words, 2));
-    if !a.good || !b.good {
-        return answer::error(out);
+    if check::same(name, b"read") {
+        return Call::Read;
     }
-    let left = a.bytes;
-    let right = b.bytes;
-    let apart = distance::xor(left, right);
-    let said = answer::text(out, 0, b"distance ");
-    let shown = answer::digits(out, said, &apart);
-    let at = answer::text(out, shown, b" class ");
-    let last = answer::decimal(out, at, distance::log_distance(left, right) as u64);
-    answer::end(out, last)
-}
-
-// interested NODE RADIUS KEY
-fn interested(line: &[u8], words: Words, data: &mut [u8], out: &mut [u8]) -> usize {
-    if words.count != 4 {
-        return answer::error(out);
-    }
-    let node = words::value(words::word(line, words, 1));
-    let radius = words::value(words::word(line, words, 2));
-    if !node.good || !radius.good {
-        return answer::error(out);
-    }
-    let Decoded::Bytes(n) = words::bytes(words::word(line, words, 3), data) else {
-        return answer::error(out);
-    };
-    let id = node.bytes;
-    let cap = radius.bytes;
-    let interest = content_key::interested(id, cap, words::front(data, n));
-    match interest {
-        Interest::Yes => answer::text(out, 0, b"yes\n"),
-        Interest::No => answer::text(out, 0, b"no\n"),
-        Interest::Refused(why) => answer::refused(out, why),
-    }
+    Call::None
 }

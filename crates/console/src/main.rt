@@ -1,6 +1,8 @@
 // Every call of the libraries from a line of text: reads lines, and answers one line for each.
 mod answer;
 mod calls;
+mod keys;
+mod messages;
 mod words;
 
 use libc::STDIN_FILENO;

@@ -60,6 +60,16 @@ pub fn front(s: &[u8], n: usize) -> &[u8] {
     if n <= s.len() { &s[..n] } else { &s[..0] }
 }
 
+// The part at a place, or nothing where it is not inside.
+pub fn part(s: &[u8], start: usize, len: usize) -> &[u8] {
+    if start <= s.len() {
+        if len <= s.len() - start {
+            return &s[start..start + len];
+        }
+    }
+    &s[..0]
+}
+
 // The bytes that a word stands for, at the start of data: lower-case hexadecimal, or `-` for none.
 pub fn bytes(word: &[u8], data: &mut [u8]) -> Decoded {
     if word.len() == 0 {

@@ -44,6 +44,12 @@ pub enum Checked {
     Refused(Refusal),
 }
 
+// How many bytes a call wrote at the start of a buffer lent to it, or why none.
+pub enum Wrote {
+    Bytes(usize),
+    Refused(Refusal),
+}
+
 // The refusal's number in the table.
 pub fn number(why: Refusal) -> u8
     ensures { λ r. ⌜ r ≡ numberOf why ⌝ }

@@ -1,0 +1,59 @@
+-- Parts of the message: bytes written out, four bytes as a number, a part to the end, and bytes in the other order.
+-- Assumes nothing.
+use Prim.Native.Nat.{ℕ, zero, suc, _+_, _*_, _-_, _≤_}
+use native.Mathlib.Numerals.{add-one}
+use native.Mathlib.Omega.{arith}
+use mathlib.Core.Path.{_≡_, refl, sym, ap, _∙_}
+use mathlib.Core.Bool.{Bool, true, false}
+use mathlib.Core.List.{List, [], _∷_, reverse, reverse-cons}
+use lib.Dec.{ltb}
+use lib.ListN.{length, getD, take, drop, length-drop, length-reverse, drop-of-length-le, List·getD-append}
+use lib.Seq.{drop-cons, take-all, getD-at}
+use borrow.Author.Tests.{ltb-true, ltb-false}
+use Rattle.octets.specs.Bytes.{le}
+use Rattle.octets.proofs.Listed.{listed}
+use Rattle.message.specs.Records.{offsetOf}
+use Rattle.message.specs.Rules.{present}
+
+-- elements written out are the part that they stand in
+pub listed-take : (n j : ℕ) (xs : List ℕ) → j + n ≤ length xs → listed n j xs ≡ take n (drop j xs)
+listed-take zero j xs h = refl
+listed-take (suc n) j xs h =
+    ap (λ (l : List ℕ). getD xs j 0 ∷ l) (listed-take n (suc j) xs (omega arith))
+    ∙ ap (take (suc n)) (sym (drop-cons xs j 0 (omega arith)))
+
+-- four bytes as a number
+pub offset-at : (s : List ℕ) (at : ℕ) → at + 4 ≤ length s
+    → getD s at 0 + 256 * (getD s (at + 1) 0 + 256 * (getD s (at + 2) 0 + 256 * getD s (at + 3) 0)) ≡ offsetOf (drop at s)
+unfolding offsetOf le
+offset-at s at h =
+    rw (add-one, add-two at, add-three at) (omega (arith, ap le (listed-take 4 at s h)))
+  where
+    add-two : (n : ℕ) → n + 2 ≡ suc (suc n)
+    add-two n = omega arith
+
+    add-three : (n : ℕ) → n + 3 ≡ suc (suc (suc n))
+    add-three n = omega arith
+
+-- a part that goes to the end of what follows a place
+pub part-rest : (s : List ℕ) (n : ℕ) → take (length s - n) (drop n s) ≡ drop n s
+part-rest s n = take-all (length s - n) (drop n s) (rw length-drop (omega arith))
+
+-- something follows a place that is before the end
+pub present-drop : (s : List ℕ) (n : ℕ) → present (drop n s) ≡ ltb n (length s)
+present-drop s n = go (ltb n (length s)) refl
+  where
+    go : (t : Bool) → ltb n (length s) ≡ t → present (drop n s) ≡ ltb n (length s)
+    go true e = ap present (drop-cons s n 0 (ltb-true n (length s) e)) ∙ sym e
+    go false e = ap present (drop-of-length-le s (ltb-false n (length s) e)) ∙ sym e
+
+-- an element of bytes in the other order
+pub reverse-at : (xs : List ℕ) (i j : ℕ) → i + suc j ≡ length xs → getD (reverse xs) i 0 ≡ getD xs j 0
+reverse-at [] i j h = absurd (omega arith)
+reverse-at (x ∷ xs) i zero h =
+    ap (λ (l : List ℕ). getD l i 0) (reverse-cons x xs)
+    ∙ getD-at (reverse xs) x [] 0 i (omega (arith, length-reverse xs))
+reverse-at (x ∷ xs) i (suc j) h =
+    ap (λ (l : List ℕ). getD l i 0) (reverse-cons x xs)
+    ∙ List·getD-append (reverse xs) (x ∷ []) 0 i (omega (arith, length-reverse xs))
+    ∙ reverse-at xs i j (omega arith)

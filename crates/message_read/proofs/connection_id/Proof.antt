@@ -1,0 +1,32 @@
+-- `message_read::connection_id` meets its contract: four bytes written out. Assumes nothing.
+use Rattle.message_read.proofs.Lists.{listed-take}
+use borrow.Author.Needs.{needs}
+use Rattle.message_read.proofs.connection_id.Statement.{statement}
+use Rattle.message_read.proofs.connection_id.Tie as tie
+
+shared-slice-read-t3 : tie.Need-shared-slice-read-t3
+shared-slice-read-t3 c = search needs
+
+shared-slice-read-t5 : tie.Need-shared-slice-read-t5
+shared-slice-read-t5 c = search needs
+
+shared-slice-read-t7 : tie.Need-shared-slice-read-t7
+shared-slice-read-t7 c = search needs
+
+shared-slice-read-t9 : tie.Need-shared-slice-read-t9
+shared-slice-read-t9 c = search needs
+
+returns : tie.Need-returns
+returns c =
+    let at = c .before .before .before .before in
+    listed-take 4 1 (at .args .message .now) (at .pre)
+
+pub connection-id-spec : {M : Type 1} → statement M
+connection-id-spec =
+    tie.close
+    (tie.spec
+    shared-slice-read-t3
+    shared-slice-read-t5
+    shared-slice-read-t7
+    shared-slice-read-t9
+    returns)

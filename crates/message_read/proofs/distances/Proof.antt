@@ -1,0 +1,67 @@
+-- `message_read::distances` meets its contract: each return has its law, by the tests on the way. Assumes nothing.
+use native.Mathlib.Omega.{arith}
+use Rattle.refusal.specs.declared.Refusal.the-variants.{Layout, TooManyItems, ItemRule}
+use Rattle.message_read.proofs.Answers.{answer-as, refused-to}
+use Rattle.message_read.proofs.Shapes.{rest-long, distances-broken, distances-many, distances-equal, distances-good}
+use borrow.Author.Needs.{needs}
+use Rattle.message_read.proofs.distances.Statement.{statement}
+use Rattle.message_read.proofs.distances.Tie as tie
+
+has-rest-requires : tie.Need-has-rest-requires
+has-rest-requires c κs = search needs
+
+refused-requires : tie.Need-refused-requires
+refused-requires c κs = search needs
+
+returns : tie.Need-returns
+returns c = refused-to Layout (c .refused .ensures) (distances-broken (c .before .before .has-rest .ensures) (c .before .if1 .taken))
+
+sub-len : tie.Need-sub-len
+sub-len c = omega (arith, rest-long (c .before .has-rest .ensures) (c .if1 .left))
+
+refused-requires-2 : tie.Need-refused-requires-2
+refused-requires-2 c κs = search needs
+
+returns-2 : tie.Need-returns-2
+returns-2 c =
+    let at = c .before .before in
+    refused-to TooManyItems (c .refused2 .ensures) (distances-many (at .before .has-rest .ensures) (at .if1 .left) (c .before .if2 .taken))
+
+all-different-requires : tie.Need-all-different-requires
+all-different-requires c κs = omega (arith, rest-long (c .before .before .has-rest .ensures) (c .before .if1 .left))
+
+refused-requires-3 : tie.Need-refused-requires-3
+refused-requires-3 c κs = search needs
+
+returns-3 : tie.Need-returns-3
+returns-3 c =
+    let at = c .before .before .before in
+    refused-to ItemRule (c .refused3 .ensures)
+    (distances-equal (at .before .before .has-rest .ensures) (at .before .if1 .left) (at .if2 .left)
+    (c .before .before .all-different .ensures) (c .before .if3 .taken))
+
+part-requires : tie.Need-part-requires
+part-requires c κs = search needs
+
+returns-4 : tie.Need-returns-4
+returns-4 c =
+    let at = c .before .before .before in
+    answer-as (c .part .ensures)
+    (distances-good (at .before .before .has-rest .ensures) (at .before .if1 .left) (at .if2 .left)
+    (c .before .before .all-different .ensures) (c .before .if3 .left))
+
+pub distances-spec : {M : Type 1} → statement M
+distances-spec =
+    tie.close
+    (tie.spec
+    has-rest-requires
+    refused-requires
+    returns
+    sub-len
+    refused-requires-2
+    returns-2
+    all-different-requires
+    refused-requires-3
+    returns-3
+    part-requires
+    returns-4)

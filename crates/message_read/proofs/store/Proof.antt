@@ -1,0 +1,65 @@
+-- `message_read::store` meets its contract: each return has its law, by the tests on the way. Assumes nothing.
+use native.Mathlib.Omega.{arith}
+use mathlib.Core.Path.{ap₂}
+use Rattle.refusal.specs.declared.Refusal.the-variants.{Layout, ItemRule}
+use Rattle.message_read.proofs.Answers.{setConnection, answer-as, refused-to}
+use Rattle.message_read.proofs.Shapes.{rest-long, store-broken, store-bad, store-good}
+use borrow.Author.Needs.{needs}
+use Rattle.message_read.proofs.store.Statement.{statement}
+use Rattle.message_read.proofs.store.Tie as tie
+
+has-rest-requires : tie.Need-has-rest-requires
+has-rest-requires c κs = search needs
+
+refused-requires : tie.Need-refused-requires
+refused-requires c κs = search needs
+
+returns : tie.Need-returns
+returns c = refused-to Layout (c .refused .ensures) (store-broken (c .before .before .has-rest .ensures) (c .before .if1 .taken))
+
+things-requires : tie.Need-things-requires
+things-requires c κs = omega (arith, rest-long (c .before .has-rest .ensures) (c .if1 .left))
+
+refused-requires-2 : tie.Need-refused-requires-2
+refused-requires-2 c κs = search needs
+
+returns-2 : tie.Need-returns-2
+returns-2 c =
+    let at = c .before .before .before in
+    refused-to ItemRule (c .refused2 .ensures)
+    (store-bad (at .before .has-rest .ensures) (at .if1 .left) (c .before .before .things .ensures) (c .before .if2 .taken))
+
+connection-id-requires : tie.Need-connection-id-requires
+connection-id-requires c κs =
+    let at = c .before .before in
+    omega (arith, rest-long (at .before .has-rest .ensures) (at .if1 .left))
+
+sub-part : tie.Need-sub-part
+sub-part c =
+    let at = c .before .before .before in
+    omega (arith, rest-long (at .before .has-rest .ensures) (at .if1 .left))
+
+part-requires : tie.Need-part-requires
+part-requires c κs = search needs
+
+returns-3 : tie.Need-returns-3
+returns-3 c =
+    let at = c .before .before .before .before in
+    answer-as
+    (ap₂ setConnection (c .before .connection-id .ensures) (c .part .ensures))
+    (store-good (at .before .has-rest .ensures) (at .if1 .left) (c .before .before .before .things .ensures) (c .before .before .if2 .left))
+
+pub store-spec : {M : Type 1} → statement M
+store-spec =
+    tie.close
+    (tie.spec
+    has-rest-requires
+    refused-requires
+    returns
+    things-requires
+    refused-requires-2
+    returns-2
+    connection-id-requires
+    sub-part
+    part-requires
+    returns-3)

@@ -1,0 +1,85 @@
+-- What the parts of reading say: the answers that they build, the kinds that share a layout, and the tests on a layout.
+use Prim.Native.Nat.{ℕ, _+_, _<_}
+use mathlib.Core.Path.{_≡_}
+use mathlib.Core.Bool.{Bool, true, cond}
+use mathlib.Core.List.{List}
+use mathlib.Core.Option.{some, none}
+use lib.Dec.{ltb}
+use lib.ListN.{length, drop, replicate}
+use Rattle.refusal.specs.declared.Refusal.the-variants.{Layout, TooManyItems, ItemRule}
+use Rattle.refusal.specs.declared.Checked.{Checked}
+use Rattle.message.specs.Records.{offsetOf}
+use Rattle.message.specs.Rules.{one}
+use Rattle.message.specs.Decode.{restOf}
+use Rattle.message.specs.declared.Kind.{Kind}
+use Rattle.message.specs.declared.Kind.the-variants.{Ping, Pong, FindNode, FoundNodes, FindContent, FoundContent, Offer, Accept, Store, Refused}
+use Rattle.message.specs.declared.Reading.{Reading}
+use Rattle.message_records.specs.declared.Verdict.{Verdict}
+use Rattle.message_records.specs.declared.Verdict.the-variants.{Broken, TooMany, Bad, Good}
+
+-- an answer with each of its fields
+abbrev pub answerOf : Kind → List ℕ → ℕ → List ℕ → ℕ → ℕ → ℕ → List ℕ → List ℕ → Reading
+answerOf kind radius total connection start len count starts lens =
+    record {
+      kind = kind;
+      radius = radius;
+      total = total;
+      connection = connection;
+      start = start;
+      len = len;
+      count = count;
+      starts = starts;
+      lens = lens;
+    }
+
+-- nothing but a kind
+abbrev pub blankOf : Kind → Reading
+blankOf kind = answerOf kind (replicate 32 0) 0 (replicate 4 0) 0 0 0 (replicate 32 0) (replicate 32 0)
+
+-- a part of the message and nothing more
+abbrev pub partOf : Kind → ℕ → ℕ → Reading
+partOf kind start len = answerOf kind (replicate 32 0) 0 (replicate 4 0) start len 0 (replicate 32 0) (replicate 32 0)
+
+-- records and nothing more
+abbrev pub placesOf : Kind → ℕ → List ℕ → List ℕ → Reading
+placesOf kind count starts lens = answerOf kind (replicate 32 0) 0 (replicate 4 0) 0 0 count starts lens
+
+-- the type byte of a kind
+abbrev pub typeOf : Kind → ℕ
+typeOf Ping = 1
+typeOf Pong = 2
+typeOf FindNode = 3
+typeOf FoundNodes = 4
+typeOf FindContent = 5
+typeOf FoundContent = 6
+typeOf Offer = 7
+typeOf Accept = 8
+typeOf Store = 9
+typeOf (Refused why) = 0
+
+-- the kinds that are a radius alone
+pub data RadiusKind : Kind → Type 0 where
+  is-ping : RadiusKind Ping
+  is-pong : RadiusKind Pong
+
+-- the kinds that are a key alone
+pub data KeyKind : Kind → Type 0 where
+  is-find-content : KeyKind FindContent
+  is-offer : KeyKind Offer
+  is-accept : KeyKind Accept
+
+-- whether a container has its fixed part of n bytes and the offset of the rest, as the definition goes on
+pub record RestAt (n : ℕ) (s : List ℕ) (r : Bool) : Type 0 where
+  pub value : restOf n (drop 1 s) ≡ cond r (some (drop (n + 1) s)) none
+  pub long : r ≡ true → n < length s
+
+-- how many are present of a connection id that is not zero, records, and content from a place on
+unfoldable pub thingsOf : List ℕ → ℕ → ℕ → ℕ
+thingsOf s records content = one (ltb 0 (offsetOf (drop 1 s))) + one (ltb 0 records) + one (ltb content (length s))
+
+-- what a verdict on records is refused for
+abbrev pub whyOf : Verdict → Checked
+whyOf Broken = Checked.Refused Layout
+whyOf TooMany = Checked.Refused TooManyItems
+whyOf Bad = Checked.Refused ItemRule
+whyOf Good = Checked.Accepted

@@ -1,0 +1,312 @@
+// Reads any bytes as one of the nine messages.
+ghost use Prim.Native.Nat.{_+_, _≤_, _<_};
+ghost use mathlib.Core.Path.{_≡_};
+ghost use mathlib.Core.List.{List, reverse};
+ghost use lib.Dec.{eqb};
+ghost use lib.ListN.{length, take, drop};
+ghost use Rattle.message.specs.Records.{offsetOf};
+ghost use Rattle.message.specs.Rules.{one, allDifferent};
+ghost use Rattle.message.specs.Decode.{twoOffsets, layoutOf, ruledOr4, decode};
+ghost use Rattle.message.specs.Reading.{ReadTo};
+ghost use Rattle.message_read.specs.Shapes.{blankOf, partOf, placesOf, typeOf, RadiusKind, KeyKind, RestAt, thingsOf, whyOf};
+use message::Kind;
+use message::Reading;
+use message_records::Records;
+use message_records::Verdict;
+use refusal::Checked;
+use refusal::Refusal;
+
+// The message that the bytes are, or why they are none.
+pub fn read(message: &[u8]) -> Reading
+    ensures { λ r. ⌜ ReadTo (decode (now (message .entry))) (now (message .entry)) r ⌝ }
+{
+    if message.len() == 0 {
+        return refused(Refusal::EmptyMessage);
+    }
+    if 1280 < message.len() {
+        return refused(Refusal::LongMessage);
+    }
+    let kind = message[0];
+    match kind {
+        1 => radius(message, Kind::Ping),
+        2 => radius(message, Kind::Pong),
+        3 => distances(message),
+        4 => nodes(message),
+        5 => key(message, Kind::FindContent),
+        6 => found_content(message),
+        7 => key(message, Kind::Offer),
+        8 => key(message, Kind::Accept),
+        9 => store(message),
+        _ => refused(Refusal::MessageType),
+    }
+}
+
+// A message of a radius alone: Ping, Pong.
+fn radius(message: &[u8], kind: Kind) -> Reading
+    requires { ⌜ RadiusKind kind ⌝ }
+    ensures { λ r. ⌜ ReadTo (ruledOr4 (layoutOf (typeOf kind) (drop 1 (now (message .entry))))) (now (message .entry)) r ⌝ }
+{
+    if message.len() != 33 {
+        return refused(Refusal::Layout);
+    }
+    let radius = reversed(&message[1..]);
+    let mut answer = blank(kind);
+    answer.radius = radius;
+    answer
+}
+
+// A list of distances: FindNode.
+fn distances(message: &[u8]) -> Reading
+    ensures { λ r. ⌜ ReadTo (ruledOr4 (layoutOf 3 (drop 1 (now (message .entry))))) (now (message .entry)) r ⌝ }
+{
+    if !has_rest(message, 4) {
+        return refused(Refusal::Layout);
+    }
+    let len = message.len() - 5;
+    if 256 < len {
+        return refused(Refusal::TooManyItems);
+    }
+    if !all_different(message, 5) {
+        return refused(Refusal::ItemRule);
+    }
+    part(Kind::FindNode, 5, len)
+}
+
+// A list of records with a total: FoundNodes.
+fn nodes(message: &[u8]) -> Reading
+    ensures { λ r. ⌜ ReadTo (ruledOr4 (layoutOf 4 (drop 1 (now (message .entry))))) (now (message .entry)) r ⌝ }
+{
+    if !has_rest(message, 5) {
+        return refused(Refusal::Layout);
+    }
+    let found = message_records::read_records(message, 6, message.len());
+    let verdict = found.verdict;
+    let checked = reason(verdict);
+    match checked {
+        Checked::Refused(why) => refused(why),
+        Checked::Accepted => {
+            let total = message[1];
+            if total == 0 {
+                return refused(Refusal::ItemRule);
+            }
+            let mut answer = with_records(Kind::FoundNodes, found);
+            answer.total = total;
+            answer
+        }
+    }
+}
+
+// A key alone: FindContent, Offer, Accept.
+fn key(message: &[u8], kind: Kind) -> Reading
+    requires { ⌜ KeyKind kind ⌝ }
+    ensures { λ r. ⌜ ReadTo (ruledOr4 (layoutOf (typeOf kind) (drop 1 (now (message .entry))))) (now (message .entry)) r ⌝ }
+{
+    if has_rest(message, 4) {
+        let found = content_key::key(&message[5..]);
+        let checked = found.checked;
+        match checked {
+            Checked::Accepted => part(kind, 5, message.len() - 5),
+            Checked::Refused(why) => refused(why),
+        }
+    } else {
+        refused(Refusal::Layout)
+    }
+}
+
+// A connection id, records and content: FoundContent.
+fn found_content(message: &[u8]) -> Reading
+    ensures { λ r. ⌜ ReadTo (ruledOr4 (layoutOf 6 (drop 1 (now (message .entry))))) (now (message .entry)) r ⌝ }
+{
+    if !two_offsets(message) {
+        return refused(Refusal::Layout);
+    }
+    let end = 1 + offset(message, 9);
+    let found = message_records::read_records(message, 13, end);
+    let verdict = found.verdict;
+    let checked = reason(verdict);
+    match checked {
+        Checked::Refused(why) => refused(why),
+        Checked::Accepted => {
+            let count = found.count;
+            if 1 < things(message, count, end) {
+                return refused(Refusal::ItemRule);
+            }
+            let id = connection_id(message);
+            let mut answer = with_records(Kind::FoundContent, found);
+            answer.connection = id;
+            answer.start = end;
+            answer.len = message.len() - end;
+            answer
+        }
+    }
+}
+
+// A connection id and content: Store.
+fn store(message: &[u8]) -> Reading
+    ensures { λ r. ⌜ ReadTo (ruledOr4 (layoutOf 9 (drop 1 (now (message .entry))))) (now (message .entry)) r ⌝ }
+{
+    if !has_rest(message, 8) {
+        return refused(Refusal::Layout);
+    }
+    if things(message, 0, 9) != 1 {
+        return refused(Refusal::ItemRule);
+    }
+    let id = connection_id(message);
+    let mut answer = part(Kind::Store, 9, message.len() - 9);
+    answer.connection = id;
+    answer
+}
+
+// The container's fixed part has n bytes, and its last four are the offset of the rest, which is n.
+fn has_rest(message: &[u8], n: usize) -> bool
+    requires { ⌜ (4 ≤ n) × (n ≤ 8) ⌝ }
+    ensures { λ r. ⌜ RestAt n (now (message .entry)) r ⌝ }
+{
+    if message.len() <= n {
+        return false;
+    }
+    offset(message, n - 3) == n
+}
+
+// The two offsets of FoundContent: 12, and one from 12 to the container's length.
+fn two_offsets(message: &[u8]) -> bool
+    ensures { λ r. ⌜ r ≡ twoOffsets (drop 1 (now (message .entry))) ⌝ }
+{
+    if message.len() < 13 {
+        return false;
+    }
+    if offset(message, 5) != 12 {
+        return false;
+    }
+    let second = offset(message, 9);
+    if second < 12 {
+        return false;
+    }
+    second < message.len()
+}
+
+// The four bytes after the type.
+fn connection_id(message: &[u8]) -> [u8; 4]
+    requires { ⌜ 4 < length (now message) ⌝ }
+    ensures { λ r. ⌜ r ≡ take 4 (drop 1 (now (message .entry))) ⌝ }
+{
+    [message[1], message[2], message[3], message[4]]
+}
+
+// No two bytes from a place on are equal: one pass, with a flag for each byte that was seen.
+fn all_different(message: &[u8], start: usize) -> bool
+    requires { ⌜ start ≤ length (now message) ⌝ }
+    ensures { λ r. ⌜ r ≡ allDifferent eqb (drop start (now (message .entry))) ⌝ }
+{
+    let mut seen = [0u8; 256];
+    for i in start..message.len() {
+        let byte = wide(message[i]);
+        if seen[byte] != 0 {
+            return false;
+        }
+        seen[byte] = 1;
+    }
+    true
+}
+
+// The bytes in the other order.
+fn reversed(bytes: &[u8]) -> [u8; 32]
+    requires { ⌜ length (now bytes) ≡ 32 ⌝ }
+    ensures { λ r. ⌜ r ≡ reverse (now (bytes .entry)) ⌝ }
+{
+    let mut out = [0u8; 32];
+    let mut from = 32;
+    for i in 0..32 {
+        from -= 1;
+        out[i] = bytes[from];
+    }
+    out
+}
+
+// The number of four bytes at a place, lightest first.
+fn offset(s: &[u8], at: usize) -> usize
+    requires { ⌜ at + 4 ≤ length (now s) ⌝ }
+    ensures { λ r. ⌜ (r ≡ offsetOf (drop at (now (s .entry)))) × (r < 4294967296) ⌝ }
+{
+    wide(s[at]) + 256 * (wide(s[at + 1]) + 256 * (wide(s[at + 2]) + 256 * wide(s[at + 3])))
+}
+
+fn wide(x: u8) -> usize
+    ensures { λ r. ⌜ (r ≡ x) × (r < 256) ⌝ }
+{
+    x as usize
+}
+
+// How many are present of a connection id that is not zero, records, and content from a place on.
+fn things(message: &[u8], records: usize, content: usize) -> usize
+    requires { ⌜ 4 < length (now message) ⌝ }
+    ensures { λ r. ⌜ r ≡ thingsOf (now (message .entry)) records content ⌝ }
+{
+    one(0 < offset(message, 1)) + one(0 < records) + one(content < message.len())
+}
+
+// 1 where a thing is present.
+fn one(present: bool) -> usize
+    ensures { λ r. ⌜ (r ≡ one present) × (r ≤ 1) ⌝ }
+{
+    if present { 1 } else { 0 }
+}
+
+// What a list of records is refused for.
+fn reason(verdict: Verdict) -> Checked
+    ensures { λ r. ⌜ r ≡ whyOf verdict ⌝ }
+{
+    match verdict {
+        Verdict::Broken => Checked::Refused(Refusal::Layout),
+        Verdict::TooMany => Checked::Refused(Refusal::TooManyItems),
+        Verdict::Bad => Checked::Refused(Refusal::ItemRule),
+        Verdict::Good => Checked::Accepted,
+    }
+}
+
+// An answer with records and nothing more.
+fn with_records(kind: Kind, found: Records) -> Reading
+    ensures { λ r. ⌜ r ≡ placesOf kind (found .count) (found .starts) (found .lens) ⌝ }
+{
+    let starts = found.starts;
+    let lens = found.lens;
+    let mut answer = blank(kind);
+    answer.count = found.count;
+    answer.starts = starts;
+    answer.lens = lens;
+    answer
+}
+
+// An answer with a part of the message and nothing more.
+fn part(kind: Kind, start: usize, len: usize) -> Reading
+    ensures { λ r. ⌜ r ≡ partOf kind start len ⌝ }
+{
+    let mut answer = blank(kind);
+    answer.start = start;
+    answer.len = len;
+    answer
+}
+
+// A refusal: no data beside it.
+fn refused(why: Refusal) -> Reading
+    ensures { λ r. ⌜ r ≡ blankOf (Kind.Refused why) ⌝ }
+{
+    blank(Kind::Refused(why))
+}
+
+// An answer with nothing but its kind.
+fn blank(kind: Kind) -> Reading
+    ensures { λ r. ⌜ r ≡ blankOf kind ⌝ }
+{
+    Reading {
+        kind,
+        radius: [0u8; 32],
+        total: 0,
+        connection: [0u8; 4],
+        start: 0,
+        len: 0,
+        count: 0,
+        starts: [0usize; 32],
+        lens: [0usize; 32],
+    }
+}

@@ -1,0 +1,33 @@
+-- What the list of records in a part of a message comes to, and what an answer about it says.
+use Prim.Native.Nat.{ℕ, _+_, _-_, _≤_, _<_}
+use mathlib.Core.Path.{_≡_}
+use mathlib.Core.Bool.{cond, _&&_}
+use mathlib.Core.List.{List}
+use mathlib.Core.Option.{Option, some, none}
+use lib.Dec.{leb}
+use lib.ListN.{length, getD, take, drop, replicate}
+use Rattle.message.specs.Records.{recordsOf}
+use Rattle.message.specs.Rules.{goodRecords}
+use Rattle.message.specs.Reading.{recordsAt}
+use Rattle.message_records.specs.declared.Verdict.{Verdict}
+use Rattle.message_records.specs.declared.Verdict.the-variants.{Broken, TooMany, Bad, Good}
+use Rattle.message_records.specs.declared.Records.{Records}
+
+-- the records of the list from one index up to another, if there is such a part and its layout is right
+abbrev pub recordsIn : List ℕ → ℕ → ℕ → Option (List (List ℕ))
+recordsIn s base end = cond (leb base end && leb end (length s)) (recordsOf (take (end - base) (drop base s))) none
+
+-- the layout comes before the count, and the count before the records' own rules
+abbrev pub verdictOf : Option (List (List ℕ)) → Verdict
+verdictOf none = Broken
+verdictOf (some rs) = cond (leb (length rs) 32) (cond (goodRecords rs) Good Bad) TooMany
+
+-- what the answer for that part says: the verdict, and the places of the records where they are good; zeros in all other places
+pub record RecordsIn (s : List ℕ) (base end : ℕ) (r : Records) : Type 0 where
+  pub verdict : r .verdict ≡ verdictOf (recordsIn s base end)
+  pub value : r .verdict ≡ Good → recordsIn s base end ≡ some (recordsAt s (r .starts) (r .lens) (r .count))
+  pub few : r .count ≤ 32
+  pub inside : (i : ℕ) → i < r .count → getD (r .starts) i 0 + getD (r .lens) i 0 ≤ length s
+  pub nothing : (r .verdict ≡ Good → ⊥) → r .count ≡ 0
+  pub starts : drop (r .count) (r .starts) ≡ replicate (32 - r .count) 0
+  pub lens : drop (r .count) (r .lens) ≡ replicate (32 - r .count) 0

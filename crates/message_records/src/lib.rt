@@ -1,0 +1,224 @@
+// The list of records in a message, for FoundNodes and FoundContent: its layout, the number of records, and the rules on them.
+ghost use Prim.Native.Nat.{_+_, _*_, _≤_, _<_};
+ghost use mathlib.Core.Path.{_≡_};
+ghost use mathlib.Core.Bool.{true, not};
+ghost use lib.ListN.{length, take, drop};
+ghost use Rattle.message.specs.Records.{offsetOf, offsetsOf, ordered};
+ghost use Rattle.message.specs.Rules.{allDifferent, sameBytes, goodRecords};
+ghost use Rattle.message.specs.Reading.{partAt, recordsAt};
+ghost use Rattle.message_records.specs.Found.{RecordsIn};
+ghost use Rattle.message_records.specs.Places.{nothing, laidCount, offsetAt, sizesGood, Places, PlacesOf};
+
+// What the list comes to.
+pub enum Verdict {
+    // The layout is broken.
+    Broken,
+    // More than 32 records.
+    TooMany,
+    // A record of no bytes or of more than 300, or two that are equal.
+    Bad,
+    Good,
+}
+
+// The verdict, and where the records are in the message if it is good.
+pub struct Records {
+    pub verdict: Verdict,
+    pub count: usize,
+    pub starts: [usize; 32],
+    pub lens: [usize; 32],
+}
+
+// The list of records that stands in the message from `base` up to `end`.
+pub fn read_records(message: &[u8], base: usize, end: usize) -> Records
+    ensures { λ r. ⌜ RecordsIn (now (message .entry)) base end r ⌝ }
+{
+    if end < base {
+        return none(Verdict::Broken);
+    }
+    if message.len() < end {
+        return none(Verdict::Broken);
+    }
+    if base == end {
+        return none(Verdict::Good);
+    }
+    let size = end - base;
+    let count = layout(message, base, size);
+    if count == 0 {
+        return none(Verdict::Broken);
+    }
+    if 32 < count {
+        return none(Verdict::TooMany);
+    }
+    let found = places(message, base, size, count);
+    let starts = found.starts;
+    let lens = found.lens;
+    if !rules_kept(message, &starts, &lens, count) {
+        return none(Verdict::Bad);
+    }
+    found
+}
+
+// No records, with a verdict.
+fn none(verdict: Verdict) -> Records
+    ensures { λ r. ⌜ r ≡ nothing verdict ⌝ }
+{
+    Records {
+        verdict,
+        count: 0,
+        starts: [0usize; 32],
+        lens: [0usize; 32],
+    }
+}
+
+fn wide(x: u8) -> usize
+    ensures { λ r. ⌜ (r ≡ x) × (r < 256) ⌝ }
+{
+    x as usize
+}
+
+// The offset of four bytes at a place, lightest first.
+fn offset(s: &[u8], at: usize) -> usize
+    requires { ⌜ at + 4 ≤ length (now s) ⌝ }
+    ensures { λ r. ⌜ r ≡ offsetOf (drop at (now (s .entry))) ⌝ }
+{
+    let a = wide(s[at]);
+    let b = wide(s[at + 1]);
+    let c = wide(s[at + 2]);
+    let d = wide(s[at + 3]);
+    a + 256 * (b + 256 * (c + 256 * d))
+}
+
+// The number of records of a list that has bytes, or 0 where its layout is broken. Every offset is examined.
+fn layout(s: &[u8], base: usize, size: usize) -> usize
+    requires { ⌜ base + size ≤ length (now s) ⌝ }
+    ensures { λ r. ⌜ r ≡ laidCount (partAt (now (s .entry)) base size) ⌝ }
+{
+    if size < 4 {
+        return 0;
+    }
+    let first = offset(s, base);
+    if first < 4 {
+        return 0;
+    }
+    if first % 4 != 0 {
+        return 0;
+    }
+    if size < first {
+        return 0;
+    }
+    let count = first / 4;
+    if ordered(s, base, size, count) {
+        count
+    } else {
+        0
+    }
+}
+
+// No offset is smaller than the one before, and none passes the end.
+fn ordered(s: &[u8], base: usize, size: usize, count: usize) -> bool
+    requires { ⌜ (base + size ≤ length (now s)) × (4 * count ≤ size) ⌝ }
+    ensures { λ r. ⌜ r ≡ ordered size (offsetsOf count (partAt (now (s .entry)) base size)) ⌝ }
+{
+    for i in 0..count {
+        let here = offset_at(s, base, size, count, i);
+        let next = offset_at(s, base, size, count, i + 1);
+        if next < here {
+            return false;
+        }
+    }
+    true
+}
+
+// The offset of a record, or past the last record the list's size, where the last one ends.
+fn offset_at(s: &[u8], base: usize, size: usize, count: usize, i: usize) -> usize
+    requires { ⌜ (base + size ≤ length (now s)) × (4 * count ≤ size) ⌝ }
+    ensures { λ r. ⌜ r ≡ offsetAt (partAt (now (s .entry)) base size) size count i ⌝ }
+{
+    if i < count {
+        offset(s, base + 4 * i)
+    } else {
+        size
+    }
+}
+
+// Where each of at most 32 records is.
+fn places(s: &[u8], base: usize, size: usize, count: usize) -> Records
+    requires { ⌜ (base + size ≤ length (now s)) × (4 * count ≤ size) × (count ≤ 32) ⌝ }
+    requires { ⌜ ordered size (offsetsOf count (partAt (now s) base size)) ≡ true ⌝ }
+    ensures { λ r. ⌜ PlacesOf (now (s .entry)) base size count r ⌝ }
+{
+    let mut starts = [0usize; 32];
+    let mut lens = [0usize; 32];
+    for i in 0..count {
+        let start = offset_at(s, base, size, count, i);
+        let next = offset_at(s, base, size, count, i + 1);
+        starts[i] = base + start;
+        lens[i] = next - start;
+    }
+    Records {
+        verdict: Verdict::Good,
+        count,
+        starts,
+        lens,
+    }
+}
+
+// Every record has 1 to 300 bytes, and no two are equal byte for byte.
+fn rules_kept(s: &[u8], starts: &[usize; 32], lens: &[usize; 32], count: usize) -> bool
+    requires { ⌜ Places (now s) (now starts) (now lens) count ⌝ }
+    ensures { λ r. ⌜ r ≡ goodRecords (recordsAt (now (s .entry)) (now (starts .entry)) (now (lens .entry)) count) ⌝ }
+{
+    if !sizes(lens, count) {
+        return false;
+    }
+    !some_equal(s, starts, lens, count)
+}
+
+// Every record has 1 to 300 bytes.
+fn sizes(lens: &[usize; 32], count: usize) -> bool
+    requires { ⌜ (length (now lens) ≡ 32) × (count ≤ 32) ⌝ }
+    ensures { λ r. ⌜ r ≡ sizesGood (take count (now (lens .entry))) ⌝ }
+{
+    for i in 0..count {
+        if lens[i] < 1 {
+            return false;
+        }
+        if 300 < lens[i] {
+            return false;
+        }
+    }
+    true
+}
+
+// Two records are equal byte for byte: each is compared with those after it, and the first equal pair ends the search.
+fn some_equal(s: &[u8], starts: &[usize; 32], lens: &[usize; 32], count: usize) -> bool
+    requires { ⌜ Places (now s) (now starts) (now lens) count ⌝ }
+    ensures { λ r. ⌜ r ≡ not (allDifferent sameBytes (recordsAt (now (s .entry)) (now (starts .entry)) (now (lens .entry)) count)) ⌝ }
+{
+    let mut found = false;
+    'pairs: for i in 0..count {
+        for j in i + 1..count {
+            if same(s, starts[i], lens[i], starts[j], lens[j]) {
+                found = true;
+                break 'pairs;
+            }
+        }
+    }
+    found
+}
+
+// Two parts of the message are equal byte for byte.
+fn same(s: &[u8], a: usize, n: usize, b: usize, m: usize) -> bool
+    requires { ⌜ (a + n ≤ length (now s)) × (b + m ≤ length (now s)) ⌝ }
+    ensures { λ r. ⌜ r ≡ sameBytes (partAt (now (s .entry)) a n) (partAt (now (s .entry)) b m) ⌝ }
+{
+    if n != m {
+        return false;
+    }
+    for k in 0..n {
+        if s[a + k] != s[b + k] {
+            return false;
+        }
+    }
+    true
+}

@@ -1,31 +1,15 @@
 -- The rules on a message's items (document 01, "Item rules"): 5 too many, 6 another rule, 7 and 8 a bad key. What comes first in that
 -- order is given.
 use Prim.Native.Nat.{ℕ, _+_}
-use mathlib.Core.Bool.{Bool, true, false, cond, not, _&&_, _||_}
+use mathlib.Core.Bool.{Bool, true, false, cond, _&&_}
 use mathlib.Core.List.{List, [], _∷_}
 use lib.Dec.{eqb, leb, ltb}
 use lib.ListN.{length}
 use Rattle.refusal.specs.Outcome.{Outcome, given, refused, mapOutcome}
 use Rattle.octets.specs.Bytes.{le}
+unfoldable pub use Rattle.octets.specs.Equal.{sameBytes, holds, allDifferent}
 use Rattle.content_key.specs.Key.{keyOf}
 use Rattle.message.specs.Values.{Message, ping, pong, findNode, foundNodes, findContent, foundContent, offer, accept, store}
-
--- equal byte for byte
-unfoldable pub sameBytes : List ℕ → List ℕ → Bool
-sameBytes [] [] = true
-sameBytes [] (y ∷ ys) = false
-sameBytes (x ∷ xs) [] = false
-sameBytes (x ∷ xs) (y ∷ ys) = eqb x y && sameBytes xs ys
-
--- some element of the list is the one looked for, by a test for equality
-unfoldable pub holds : {A : Type 0} → (A → A → Bool) → A → List A → Bool
-holds same a [] = false
-holds same a (b ∷ bs) = same a b || holds same a bs
-
--- no two elements are equal
-unfoldable pub allDifferent : {A : Type 0} → (A → A → Bool) → List A → Bool
-allDifferent same [] = true
-allDifferent same (a ∷ as′) = not (holds same a as′) && allDifferent same as′
 
 -- every record has 1 to 300 bytes
 unfoldable pub recordSizes : List (List ℕ) → Bool

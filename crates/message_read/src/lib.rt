@@ -1,7 +1,7 @@
 // Reads any bytes as one of the nine messages.
 ghost use Prim.Native.Nat.{_+_, _≤_, _<_};
 ghost use mathlib.Core.Path.{_≡_};
-ghost use mathlib.Core.List.{List, reverse};
+ghost use mathlib.Core.List.{reverse};
 ghost use lib.Dec.{eqb};
 ghost use lib.ListN.{length, take, drop};
 ghost use Rattle.message.specs.Records.{offsetOf};
@@ -215,7 +215,7 @@ fn reversed(bytes: &[u8]) -> [u8; 32]
     ensures { λ r. ⌜ r ≡ reverse (now (bytes .entry)) ⌝ }
 {
     let mut out = [0u8; 32];
-    let mut from = 32;
+    let mut from = 32usize;
     for i in 0..32 {
         from -= 1;
         out[i] = bytes[from];

@@ -1,3 +1,4 @@
+pub mod Equal
 pub mod Listed
 pub mod Numbers
 pub mod Order

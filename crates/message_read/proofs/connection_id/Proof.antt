@@ -1,6 +1,6 @@
 -- `message_read::connection_id` meets its contract: four bytes written out. Assumes nothing.
-use Rattle.message_read.proofs.Lists.{listed-take}
 use borrow.Author.Needs.{needs}
+use Rattle.message_read.proofs.Lists.{listed-take}
 use Rattle.message_read.proofs.connection_id.Statement.{statement}
 use Rattle.message_read.proofs.connection_id.Tie as tie
 

@@ -1,9 +1,9 @@
 -- `message_read::distances` meets its contract: each return has its law, by the tests on the way. Assumes nothing.
 use native.Mathlib.Omega.{arith}
+use borrow.Author.Needs.{needs}
 use Rattle.refusal.specs.declared.Refusal.the-variants.{Layout, TooManyItems, ItemRule}
 use Rattle.message_read.proofs.Answers.{answer-as, refused-to}
 use Rattle.message_read.proofs.Shapes.{rest-long, distances-broken, distances-many, distances-equal, distances-good}
-use borrow.Author.Needs.{needs}
 use Rattle.message_read.proofs.distances.Statement.{statement}
 use Rattle.message_read.proofs.distances.Tie as tie
 

@@ -1,6 +1,6 @@
 -- `message_read::has_rest` meets its contract: the test of the length, and then that of the offset. Assumes nothing.
-use Rattle.message_read.proofs.Shapes.{rest-short, rest-tested}
 use borrow.Author.Needs.{needs}
+use Rattle.message_read.proofs.Shapes.{rest-short, rest-tested}
 use Rattle.message_read.proofs.has_rest.Statement.{statement}
 use Rattle.message_read.proofs.has_rest.Tie as tie
 

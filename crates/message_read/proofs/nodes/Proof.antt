@@ -1,11 +1,11 @@
 -- `message_read::nodes` meets its contract: the verdict on the records decides, and then the total. Assumes nothing.
 use native.Mathlib.Omega.{arith}
 use mathlib.Core.Path.{_∙_, sym, ap}
+use borrow.Author.Needs.{needs}
 use Rattle.refusal.specs.declared.Refusal.the-variants.{Layout, ItemRule}
 use Rattle.message_read.proofs.Answers.{setTotal, answer-as, refused-to}
 use Rattle.message_read.proofs.Shapes.{rest-long}
 use Rattle.message_read.proofs.Found.{nodes-broken, nodes-refused, nodes-zero, nodes-good}
-use borrow.Author.Needs.{needs}
 use Rattle.message_read.proofs.nodes.Statement.{statement}
 use Rattle.message_read.proofs.nodes.Tie as tie
 

@@ -1,7 +1,7 @@
 -- `message_read::offset` meets its contract: the sum is the number of the four bytes. Assumes nothing.
 use native.Mathlib.Omega.{arith}
-use Rattle.message_read.proofs.Lists.{offset-at}
 use borrow.Author.Needs.{needs}
+use Rattle.message_read.proofs.Lists.{offset-at}
 use Rattle.message_read.proofs.offset.Statement.{statement}
 use Rattle.message_read.proofs.offset.Tie as tie
 

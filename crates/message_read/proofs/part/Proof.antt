@@ -1,7 +1,7 @@
 -- `message_read::part` meets its contract: two fields of a blank answer are set. Assumes nothing.
 use mathlib.Core.Path.{ap}
-use Rattle.message_read.proofs.Answers.{setPart}
 use borrow.Author.Needs.{needs}
+use Rattle.message_read.proofs.Answers.{setPart}
 use Rattle.message_read.proofs.part.Statement.{statement}
 use Rattle.message_read.proofs.part.Tie as tie
 

@@ -1,11 +1,11 @@
 -- `message_read::radius` meets its contract: its length decides, and the radius is the rest in the other order. Assumes nothing.
 use mathlib.Core.Path.{_∙_, ap, ap₂}
 use mathlib.Core.List.{reverse}
+use borrow.Author.Needs.{needs}
 use Rattle.refusal.specs.declared.Refusal.the-variants.{Layout}
 use Rattle.message_read.proofs.Lists.{part-rest}
 use Rattle.message_read.proofs.Answers.{setRadius, answer-as, refused-to}
 use Rattle.message_read.proofs.Shapes.{radius-broken, radius-good}
-use borrow.Author.Needs.{needs}
 use Rattle.message_read.proofs.radius.Statement.{statement}
 use Rattle.message_read.proofs.radius.Tie as tie
 

@@ -5,12 +5,12 @@ use mathlib.Core.Bool.{true, _&&_}
 use mathlib.Core.List.{List}
 use lib.Dec.{leb}
 use lib.ListN.{getD, drop}
-use Rattle.message.specs.Decode.{decode, layoutOf, ruledOr4}
+use borrow.Author.Needs.{needs}
 use Rattle.refusal.specs.declared.Refusal.the-variants.{EmptyMessage, LongMessage, MessageType}
+use Rattle.message.specs.Decode.{decode, layoutOf, ruledOr4}
 use Rattle.message_read.specs.Shapes.{is-ping, is-pong, is-find-content, is-offer, is-accept}
 use Rattle.message_read.proofs.Answers.{read-as, refused-to}
 use Rattle.message_read.proofs.Containers.{decode-empty, decode-long, none-of-nine, decode-type, decode-body}
-use borrow.Author.Needs.{needs}
 use Rattle.message_read.proofs.read.Statement.{statement}
 use Rattle.message_read.proofs.read.Tie as tie
 

@@ -1,7 +1,7 @@
 -- `message_read::reason` meets its contract: each arm is a clause of `whyOf`. Assumes nothing.
 use mathlib.Core.Path.{sym, ap}
-use Rattle.message_read.specs.Shapes.{whyOf}
 use borrow.Author.Needs.{needs}
+use Rattle.message_read.specs.Shapes.{whyOf}
 use Rattle.message_read.proofs.reason.Statement.{statement}
 use Rattle.message_read.proofs.reason.Tie as tie
 

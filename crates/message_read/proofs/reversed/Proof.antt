@@ -53,13 +53,11 @@ loop-less c = search needs
 loop-again : tie.Need-loop-again Inv-loop μ-loop
 loop-again c =
     let at = c .before .before in
-    let i = at .loop .inv in (
-      search needs,
-      (
-        omega arith,
-        turn (at .before .args .bytes .now) (at .loop .out) (replicate 32 0) (at .loop .i) (at .loop .from) (at .before .pre) (search needs) (i .1 .0) (search needs) (i .1 .1),
-      ),
-    )
+    let inv = at .loop .inv .1 in
+    let step =
+    turn (at .before .args .bytes .now) (at .loop .out) (replicate 32 0) (at .loop .i) (at .loop .from)
+    (at .before .pre) (search needs) (inv .0) (search needs) (inv .1) in
+    (search needs, (omega arith, step))
 
 returns : tie.Need-returns Inv-loop μ-loop
 returns c =

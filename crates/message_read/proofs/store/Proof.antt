@@ -1,10 +1,10 @@
 -- `message_read::store` meets its contract: each return has its law, by the tests on the way. Assumes nothing.
 use native.Mathlib.Omega.{arith}
 use mathlib.Core.Path.{ap₂}
+use borrow.Author.Needs.{needs}
 use Rattle.refusal.specs.declared.Refusal.the-variants.{Layout, ItemRule}
 use Rattle.message_read.proofs.Answers.{setConnection, answer-as, refused-to}
 use Rattle.message_read.proofs.Shapes.{rest-long, store-broken, store-bad, store-good}
-use borrow.Author.Needs.{needs}
 use Rattle.message_read.proofs.store.Statement.{statement}
 use Rattle.message_read.proofs.store.Tie as tie
 

@@ -1,12 +1,11 @@
 -- `message_read::things` meets its contract: each thing is counted as the definition does. Assumes nothing.
-
 use Prim.Native.Nat.{ℕ}
+use native.Mathlib.Omega.{arith}
 use mathlib.Core.Path.{ap}
 use lib.Dec.{ltb}
-use Rattle.message.specs.Rules.{one}
-use native.Mathlib.Omega.{arith}
-use Rattle.message_read.specs.Shapes.{thingsOf}
 use borrow.Author.Needs.{needs}
+use Rattle.message.specs.Rules.{one}
+use Rattle.message_read.specs.Shapes.{thingsOf}
 use Rattle.message_read.proofs.things.Statement.{statement}
 use Rattle.message_read.proofs.things.Tie as tie
 

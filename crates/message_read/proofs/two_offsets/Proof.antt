@@ -1,6 +1,6 @@
 -- `message_read::two_offsets` meets its contract: each test is one of the definition, in its order. Assumes nothing.
-use Rattle.message_read.proofs.Found.{two-short, two-first, two-second, two-tested}
 use borrow.Author.Needs.{needs}
+use Rattle.message_read.proofs.Found.{two-short, two-first, two-second, two-tested}
 use Rattle.message_read.proofs.two_offsets.Statement.{statement}
 use Rattle.message_read.proofs.two_offsets.Tie as tie
 

@@ -1,7 +1,7 @@
 -- `message_read::with_records` meets its contract: three fields of a blank answer are set. Assumes nothing.
 use mathlib.Core.Path.{ap}
-use Rattle.message_read.proofs.Answers.{setPlaces}
 use borrow.Author.Needs.{needs}
+use Rattle.message_read.proofs.Answers.{setPlaces}
 use Rattle.message_read.proofs.with_records.Statement.{statement}
 use Rattle.message_read.proofs.with_records.Tie as tie
 

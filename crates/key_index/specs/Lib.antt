@@ -1,0 +1,4 @@
+pub mod View
+pub mod Good
+pub mod Search
+pub mod Calls

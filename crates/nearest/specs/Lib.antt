@@ -1,0 +1,3 @@
+pub mod Sorted
+pub mod Insert
+pub mod Nearest

@@ -1,0 +1,73 @@
+-- The test for equal byte strings says equality, and the test for what is in a list says membership. Each law goes by recursion on
+-- the list, with the cases of one test as a helper. Assumes nothing.
+use Prim.Native.Nat.{ℕ}
+use mathlib.Core.Path.{_≡_, refl, sym, ap, ap₂, _∙_}
+use mathlib.Core.Bool.{Bool, true, false, _&&_, _||_, true≢false}
+use mathlib.Core.Logic.{_↔_, _⊎_, inl, inr}
+use mathlib.Core.List.{List, [], _∷_, List·Memᴰ, List·Memᴰ·head, List·Memᴰ·tail, List·Memᴰ·cases-cons, List·Memᴰ·not-nil}
+use lib.Dec.{eqb}
+use borrow.Author.Tests.{eqb-true, eq-eqb}
+use Rattle.octets.specs.Equal.{sameBytes, holds}
+
+-- equal byte strings pass the test
+pub same-refl : (xs : List ℕ) → sameBytes xs xs ≡ true
+unfolding sameBytes
+same-refl [] = refl
+same-refl (x ∷ xs) = rw (eq-eqb x x refl) (same-refl xs)
+
+-- byte strings that pass the test are equal
+pub same-true : (xs ys : List ℕ) → sameBytes xs ys ≡ true → xs ≡ ys
+unfolding sameBytes
+same-true [] [] e = refl
+same-true [] (y ∷ ys) e = absurd (true≢false (sym e))
+same-true (x ∷ xs) [] e = absurd (true≢false (sym e))
+same-true (x ∷ xs) (y ∷ ys) e = go (eqb x y) refl e (same-true xs ys)
+  where
+    go : (t : Bool) → eqb x y ≡ t → (t && sameBytes xs ys) ≡ true → (sameBytes xs ys ≡ true → xs ≡ ys) → x ∷ xs ≡ y ∷ ys
+    go true q f below = ap₂ (λ (z : ℕ) (zs : List ℕ). z ∷ zs) (eqb-true x y q) (below f)
+    go false q f below = absurd (true≢false (sym f))
+
+-- equality, from equality
+pub true-same : (xs ys : List ℕ) → xs ≡ ys → sameBytes xs ys ≡ true
+true-same xs ys e = ap (sameBytes xs) (sym e) ∙ same-refl xs
+
+-- the test is equality
+pub same-iff : (xs ys : List ℕ) → (sameBytes xs ys ≡ true) ↔ (xs ≡ ys)
+same-iff xs ys = (same-true xs ys, true-same xs ys)
+
+-- byte strings that fail the test differ
+pub same-false : (xs ys : List ℕ) → sameBytes xs ys ≡ false → xs ≡ ys → ⊥
+same-false xs ys e q = true≢false (sym (true-same xs ys q) ∙ e)
+
+-- byte strings that differ fail the test
+pub differ-same : (xs ys : List ℕ) → (xs ≡ ys → ⊥) → sameBytes xs ys ≡ false
+differ-same xs ys n = go (sameBytes xs ys) refl
+  where
+    go : (t : Bool) → sameBytes xs ys ≡ t → t ≡ false
+    go true e = absurd (n (same-true xs ys e))
+    go false e = refl
+
+-- what the test finds in a list is in it
+pub holds-member : (a : List ℕ) (l : List (List ℕ)) → holds sameBytes a l ≡ true → List·Memᴰ a l
+unfolding holds
+holds-member a [] e = absurd (true≢false (sym e))
+holds-member a (b ∷ l) e = go (sameBytes a b) refl e (holds-member a l)
+  where
+    go : (t : Bool) → sameBytes a b ≡ t → (t || holds sameBytes a l) ≡ true → (holds sameBytes a l ≡ true → List·Memᴰ a l) → List·Memᴰ a (b ∷ l)
+    go true q f below = List·Memᴰ·head (same-true a b q)
+    go false q f below = List·Memᴰ·tail (below f)
+
+-- the test finds what is in a list
+pub member-holds : (a : List ℕ) (l : List (List ℕ)) → List·Memᴰ a l → holds sameBytes a l ≡ true
+unfolding holds
+member-holds a [] m = absurd (List·Memᴰ·not-nil m)
+member-holds a (b ∷ l) m = go (sameBytes a b) refl (List·Memᴰ·cases-cons m) (member-holds a l)
+  where
+    go : (t : Bool) → sameBytes a b ≡ t → (a ≡ b) ⊎ List·Memᴰ a l → (List·Memᴰ a l → holds sameBytes a l ≡ true) → (t || holds sameBytes a l) ≡ true
+    go true q c below = refl
+    go false q (inl e) below = absurd (same-false a b q e)
+    go false q (inr n) below = below n
+
+-- the test is membership
+pub holds-iff : (a : List ℕ) (l : List (List ℕ)) → (holds sameBytes a l ≡ true) ↔ List·Memᴰ a l
+holds-iff a l = (holds-member a l, member-holds a l)

@@ -1,0 +1,5 @@
+pub mod Setting
+pub mod Views
+pub mod Done
+pub mod Runs
+pub mod Demand3

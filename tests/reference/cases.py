@@ -1,5 +1,6 @@
 """The inputs that the programs are run on."""
 from history import digits, distance, key_id, make_key
+from index_cases import index_lines
 from message_cases import all_messages
 from rlp import header
 from stream import Stream
@@ -47,7 +48,7 @@ def console_input():
     lines = id_lines(stream) + distance_lines(stream) + interest_lines(stream)
     lines += [b'content ' + (c.hex().encode() or b'-') for c in contents(stream)]
     lines += [b'read ' + (m.hex().encode() or b'-') for m in all_messages(stream)]
-    return b'\n'.join(lines + no_calls(stream)) + b'\n'
+    return b'\n'.join(lines + index_lines(stream) + no_calls(stream)) + b'\n'
 
 
 def id_lines(stream):
@@ -110,6 +111,7 @@ def no_calls(stream):
     good = distance_line(1, 3)
     lines = [b'', b' ', b'-', b'id', b'id ', b' id 00', b'id  00', b'id 00 ', b'id 00 00', b'id 0', b'id zz', b'ID 00', b'id\t00', b'id 0A', b'ids 00']
     lines += [b'distance', b'distance 00 00', good[:-1], good + b'0', good + b' ', good + b' 00', good.replace(b' ', b'  '), good.upper()]
+    lines += [b'fresh', b'fresh 00 00', b'store', b'store 00', b'store 00 00 00', b'store  -', b'remove', b'remove 00 00', b'radius ', b'radius 0', b'keys -', b'keys ']
     lines += [b'distance - -', b'interested - - -', b'interested ' + b'00' * 32, b'interested ' + b'00' * 33 + b' ' + b'00' * 31 + b' 00']
     lines += [b'id ' + b'00' * 32766, b'id ' + b'00' * 32767, b'id ' + b'0' * 65533, b'x' * 65536, b'x' * 65537, b' ' * 70000, good]
     for _ in range(200):

@@ -1,6 +1,7 @@
 """The console's answers: one line of text for each line read."""
 import messages
 import rlp
+from index import Index
 from history import Refused, digits, distance, interested, key_id, log_distance, unhex
 
 LONGEST = 65536
@@ -29,6 +30,9 @@ def value(word):
 
 
 class Console:
+    def __init__(self):
+        self.index = Index(0, 2**256 - 1)
+
     def id(self, key):
         return 'id ' + digits(key_id(data(key)))
 
@@ -48,8 +52,38 @@ class Console:
     def read(self, message):
         return messages.words(*messages.read(data(message)))
 
+    def fresh(self, node, cap):
+        self.index = Index(value(node), value(cap))
+        return 'ok'
+
+    def store(self, key, content):
+        key, content = data(key), data(content)
+        evicted = self.index.store(key, content)
+        return 'stored' if evicted is None else 'stored evicted ' + evicted.hex()
+
+    def remove(self, key):
+        self.index.remove(data(key))
+        return 'removed'
+
+    def radius(self):
+        return 'radius ' + digits(self.index.radius())
+
+    def keys(self):
+        return ' '.join(['keys', str(len(self.index.keys))] + [k.hex() for k in self.index.keys])
+
     # each call's word, its function, and how many words follow
-    CALLS = {b'id': (id, 1), b'distance': (distance, 2), b'interested': (interested, 3), b'content': (content, 1), b'read': (read, 1)}
+    CALLS = {
+        b'id': (id, 1),
+        b'distance': (distance, 2),
+        b'interested': (interested, 3),
+        b'content': (content, 1),
+        b'read': (read, 1),
+        b'fresh': (fresh, 2),
+        b'store': (store, 2),
+        b'remove': (remove, 1),
+        b'radius': (radius, 0),
+        b'keys': (keys, 0),
+    }
 
     def answer(self, line):
         name, *words = line.split(b' ')

@@ -9,6 +9,7 @@ from pathlib import Path
 
 import cases
 import console
+import index_edges
 import lister
 
 CRATES = Path(__file__).resolve().parents[2] / 'crates'
@@ -22,6 +23,7 @@ def stored():
     ):
         yield CRATES / crate / 'stdin', made
         yield CRATES / crate / 'stdout', answers(made)
+    yield CRATES / 'index_edges' / 'stdout', index_edges.output()
 
 
 def main():

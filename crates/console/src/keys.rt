@@ -1,7 +1,7 @@
 // The calls on keys, ids and distances.
-use crate::answer;
-use crate::words;
-use crate::words::Words;
+use console_text::answer;
+use console_text::words;
+use console_text::words::Words;
 use content_key::Interest;
 use hex::Decoded;
 use refusal::Checked;

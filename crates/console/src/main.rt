@@ -1,10 +1,14 @@
 // Every call of the libraries from a line of text: reads lines, and answers one line for each.
-mod answer;
+ghost use Prim.Native.Nat.{_≤_, _<_};
+ghost use lib.ListN.{length};
+
 mod calls;
 mod keys;
-mod messages;
-mod words;
 
+use calls::State;
+use console_text::answer;
+use console_text::words;
+use key_index::KeyIndex;
 use libc::STDIN_FILENO;
 use libc::STDOUT_FILENO;
 
@@ -14,25 +18,47 @@ struct Held {
     long: bool,
 }
 
+// What was read of a block: the line that has begun, where to go on, and whether a line feed ended it.
+struct Taken {
+    held: Held,
+    next: usize,
+    ended: bool,
+}
+
+// What is kept from block to block.
+struct Kept {
+    index: KeyIndex,
+    held: Held,
+}
+
 fn main() {
     let mut input = io::large_buffer();
     let mut line = io::large_buffer();
     let mut data = io::large_buffer();
+    let mut spare = io::large_buffer();
     let mut out = io::large_buffer();
-    let held = read_lines(&mut input, &mut line, &mut data, &mut out);
-    if held.long {
-        answer_line(held, &line, &mut data, &mut out);
-    } else if held.len > 0 {
-        answer_line(held, &line, &mut data, &mut out);
+    let kept = read_lines(&mut input, &mut line, &mut data, &mut spare, &mut out);
+    let held = kept.held;
+    if held.long || held.len > 0 {
+        let index = kept.index;
+        answer_line(index, held, &line, &mut data, &mut spare, &mut out);
     }
 }
 
 // Answers every line that ends, and hands back the one that the input leaves unended. Nothing says that an input ends, so the
 // loop counts its turns down, from a number that no run uses up.
-fn read_lines(input: &mut [u8], line: &mut [u8], data: &mut [u8], out: &mut [u8]) -> Held {
-    let mut held = Held {
-        len: 0,
-        long: false,
+fn read_lines(
+    input: &mut [u8],
+    line: &mut [u8],
+    data: &mut [u8],
+    spare: &mut [u8],
+    out: &mut [u8],
+) -> Kept {
+    let start = calls::start();
+    let index = start.index;
+    let mut kept = Kept {
+        index,
+        held: nothing(),
     };
     let mut turns = u64::MAX;
     while turns > 0 {
@@ -41,30 +67,88 @@ fn read_lines(input: &mut [u8], line: &mut [u8], data: &mut [u8], out: &mut [u8]
             break;
         }
         let n = io::count(got, input);
-        held = read_block(held, words::front(input, n), line, data, out);
+        kept = read_block(kept, words::front(input, n), line, data, spare, out);
         turns -= 1;
     }
-    held
+    kept
 }
 
-// Takes a block of the input, byte by byte.
-fn read_block(held: Held, block: &[u8], line: &mut [u8], data: &mut [u8], out: &mut [u8]) -> Held {
-    let mut held = held;
-    for i in 0..block.len() {
-        held = read_byte(held, block[i], line, data, out);
+fn nothing() -> Held {
+    Held {
+        len: 0,
+        long: false,
     }
-    held
 }
 
-// A line feed ends the line, which is answered; any other character goes into the line buffer if there is room.
-fn read_byte(held: Held, c: u8, line: &mut [u8], data: &mut [u8], out: &mut [u8]) -> Held {
-    if c == b'\n' {
-        answer_line(held, line, data, out);
-        return Held {
-            len: 0,
-            long: false,
+// Takes a block of the input, line by line.
+fn read_block(
+    kept: Kept,
+    block: &[u8],
+    line: &mut [u8],
+    data: &mut [u8],
+    spare: &mut [u8],
+    out: &mut [u8],
+) -> Kept {
+    let mut kept = kept;
+    let mut at = 0;
+    while at < block.len() {
+        let held = kept.held;
+        let taken = take_line(held, block, at, line);
+        kept = answer_taken(kept, taken, line, data, spare, out);
+        at = taken.next;
+    }
+    kept
+}
+
+// Answers a line that has ended, and begins the next; one that has not ended is kept.
+fn answer_taken(
+    kept: Kept,
+    taken: Taken,
+    line: &[u8],
+    data: &mut [u8],
+    spare: &mut [u8],
+    out: &mut [u8],
+) -> Kept {
+    let index = kept.index;
+    let held = taken.held;
+    if taken.ended {
+        let next = answer_line(index, held, line, data, spare, out);
+        return Kept {
+            index: next,
+            held: nothing(),
         };
     }
+    Kept { index, held }
+}
+
+// Reads up to a line feed or the block's end.
+fn take_line(held: Held, block: &[u8], from: usize, line: &mut [u8]) -> Taken
+    requires { ⌜ from < length (now block) ⌝ }
+    ensures { λ r. ⌜ (from < r .next) × (r .next ≤ length (now (block .entry))) ⌝ }
+{
+    let mut held = held;
+    let mut i = from;
+    while i < block.len() {
+        let c = block[i];
+        i += 1;
+        if c == b'\n' {
+            return Taken {
+                held,
+                next: i,
+                ended: true,
+            };
+        }
+        held = keep(held, c, line);
+    }
+    Taken {
+        held,
+        next: i,
+        ended: false,
+    }
+}
+
+// The line with one character more, which goes into the buffer if there is room.
+fn keep(held: Held, c: u8, line: &mut [u8]) -> Held {
     let len = held.len;
     if len < line.len() {
         line[len] = c;
@@ -76,17 +160,33 @@ fn read_byte(held: Held, c: u8, line: &mut [u8], data: &mut [u8], out: &mut [u8]
     Held { len, long: true }
 }
 
-// Answers a line.
-fn answer_line(held: Held, line: &[u8], data: &mut [u8], out: &mut [u8]) {
-    let n = answer_to(held, line, data, out);
-    io::write_all(STDOUT_FILENO, words::front(out, n));
+// Answers a line, and hands back the index to go on with.
+fn answer_line(
+    index: KeyIndex,
+    held: Held,
+    line: &[u8],
+    data: &mut [u8],
+    spare: &mut [u8],
+    out: &mut [u8],
+) -> KeyIndex {
+    let state = answer_to(index, held, line, data, spare, out);
+    io::write_all(STDOUT_FILENO, words::front(out, state.len));
+    state.index
 }
 
 // Puts the answer to a line into out: `error` for one that is too long, else what it asks.
-fn answer_to(held: Held, line: &[u8], data: &mut [u8], out: &mut [u8]) -> usize {
+fn answer_to(
+    index: KeyIndex,
+    held: Held,
+    line: &[u8],
+    data: &mut [u8],
+    spare: &mut [u8],
+    out: &mut [u8],
+) -> State {
     if held.long {
-        return answer::error(out);
+        let len = answer::error(out);
+        return State { index, len };
     }
     let len = held.len;
-    calls::answer(words::front(line, len), data, out)
+    calls::answer(index, words::front(line, len), data, spare, out)
 }

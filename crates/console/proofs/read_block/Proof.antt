@@ -1,5 +1,5 @@
--- `console::read_block` is safe and ends: the lent buffers keep their lengths. Assumes nothing.
-use Prim.Native.Nat.{_-_}
+-- `console::read_block` is safe and ends: each line read moves on in the block, and the lent buffers keep their lengths. Assumes nothing.
+use Prim.Native.Nat.{_-_, _≤_}
 use mathlib.Core.Path.{_≡_}
 use borrow.Author.Needs.{needs}
 use lib.ListN.{length}
@@ -7,22 +7,19 @@ use Rattle.console.proofs.read_block.Statement.{statement}
 use Rattle.console.proofs.read_block.Tie as tie
 
 abbrev Inv-loop : tie.InvT-loop
-Inv-loop block line₀ data₀ out₀ held₀ i₀ i-end line «data» out held i = (length line ≡ length line₀) × (length «data» ≡ length data₀) × (length out ≡ length out₀) × (i-end ≡ length block)
+Inv-loop block line₀ data₀ spare₀ out₀ kept₀ at₀ line «data» spare out kept at = (at ≤ length block) × (length line ≡ length line₀) × (length «data» ≡ length data₀) × (length spare ≡ length spare₀) × (length out ≡ length out₀)
 
 abbrev μ-loop : tie.MeasureT-loop
-μ-loop block line₀ data₀ out₀ held₀ i₀ i-end line «data» out held i = length block - i
+μ-loop block line₀ data₀ spare₀ out₀ kept₀ at₀ line «data» spare out kept at = length block - at
 
 loop-holds : tie.Need-loop-holds Inv-loop μ-loop
 loop-holds c = search needs
 
-shared-slice-read-read-byte : tie.Need-shared-slice-read-read-byte Inv-loop μ-loop
-shared-slice-read-read-byte c = search needs
+take-line-requires : tie.Need-take-line-requires Inv-loop μ-loop
+take-line-requires c κs = search needs
 
-read-byte-requires : tie.Need-read-byte-requires Inv-loop μ-loop
-read-byte-requires c κs = search needs
-
-add-i : tie.Need-add-i Inv-loop μ-loop
-add-i c = search needs
+answer-taken-requires : tie.Need-answer-taken-requires Inv-loop μ-loop
+answer-taken-requires c κs = search needs
 
 loop-less : tie.Need-loop-less Inv-loop μ-loop
 loop-less c = search needs
@@ -39,6 +36,9 @@ same-length-2 c = search needs
 same-length-3 : tie.Need-same-length-3 Inv-loop μ-loop
 same-length-3 c = search needs
 
+same-length-4 : tie.Need-same-length-4 Inv-loop μ-loop
+same-length-4 c = search needs
+
 returns : tie.Need-returns Inv-loop μ-loop
 returns c = search needs
 
@@ -49,12 +49,12 @@ read-block-spec =
     Inv-loop
     μ-loop
     loop-holds
-    shared-slice-read-read-byte
-    read-byte-requires
-    add-i
+    take-line-requires
+    answer-taken-requires
     loop-less
     loop-again
     same-length
     same-length-2
     same-length-3
+    same-length-4
     returns)

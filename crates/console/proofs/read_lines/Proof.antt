@@ -1,4 +1,5 @@
 -- `console::read_lines` is safe and ends: the turns fall, and the lent buffers keep their lengths. Assumes nothing.
+use Prim.Native.Nat.{_-_, _≤_}
 use mathlib.Core.Path.{_≡_}
 use borrow.Author.Needs.{needs}
 use lib.ListN.{length}
@@ -6,11 +7,16 @@ use Rattle.console.proofs.read_lines.Statement.{statement}
 use Rattle.console.proofs.read_lines.Tie as tie
 
 abbrev Inv-loop : tie.InvT-loop
-Inv-loop input₀ line₀ data₀ out₀ held₀ turns₀ input line «data» out held turns =
-    (length input ≡ length input₀) × (length line ≡ length line₀) × (length «data» ≡ length data₀) × (length out ≡ length out₀)
+Inv-loop input₀ line₀ data₀ spare₀ out₀ kept₀ turns₀ input line «data» spare out kept turns = (length input ≡ length input₀) × (length line ≡ length line₀) × (length «data» ≡ length data₀) × (length spare ≡ length spare₀) × (length out ≡ length out₀)
 
 abbrev μ-loop : tie.MeasureT-loop
-μ-loop input₀ line₀ data₀ out₀ held₀ turns₀ input line «data» out held turns = turns
+μ-loop input₀ line₀ data₀ spare₀ out₀ kept₀ turns₀ input line «data» spare out kept turns = turns
+
+start-requires : tie.Need-start-requires Inv-loop μ-loop
+start-requires c κs = search needs
+
+nothing-requires : tie.Need-nothing-requires Inv-loop μ-loop
+nothing-requires c κs = search needs
 
 loop-holds : tie.Need-loop-holds Inv-loop μ-loop
 loop-holds c = search needs
@@ -48,11 +54,11 @@ same-length-3 c = search needs
 same-length-4 : tie.Need-same-length-4 Inv-loop μ-loop
 same-length-4 c = search needs
 
-returns : tie.Need-returns Inv-loop μ-loop
-returns c = search needs
-
 same-length-5 : tie.Need-same-length-5 Inv-loop μ-loop
 same-length-5 c = search needs
+
+returns : tie.Need-returns Inv-loop μ-loop
+returns c = search needs
 
 same-length-6 : tie.Need-same-length-6 Inv-loop μ-loop
 same-length-6 c = search needs
@@ -63,6 +69,12 @@ same-length-7 c = search needs
 same-length-8 : tie.Need-same-length-8 Inv-loop μ-loop
 same-length-8 c = search needs
 
+same-length-9 : tie.Need-same-length-9 Inv-loop μ-loop
+same-length-9 c = search needs
+
+same-length-10 : tie.Need-same-length-10 Inv-loop μ-loop
+same-length-10 c = search needs
+
 returns-2 : tie.Need-returns-2 Inv-loop μ-loop
 returns-2 c = search needs
 
@@ -72,6 +84,8 @@ read-lines-spec =
     (tie.spec
     Inv-loop
     μ-loop
+    start-requires
+    nothing-requires
     loop-holds
     read-requires
     count-requires
@@ -84,9 +98,11 @@ read-lines-spec =
     same-length-2
     same-length-3
     same-length-4
-    returns
     same-length-5
+    returns
     same-length-6
     same-length-7
     same-length-8
+    same-length-9
+    same-length-10
     returns-2)

@@ -1,0 +1,81 @@
+// Answers, written into a buffer from its start: each function takes the place where it writes and answers the place after it. What
+// has no room is left out; no answer is nearly as long as the buffer.
+use refusal::Refusal;
+
+pub fn text(out: &mut [u8], at: usize, text: &[u8]) -> usize {
+    if out.len() < at {
+        return at;
+    }
+    if out.len() - at < text.len() {
+        return at;
+    }
+    for i in 0..text.len() {
+        out[at + i] = text[i];
+    }
+    at + text.len()
+}
+
+pub fn digits(out: &mut [u8], at: usize, bytes: &[u8]) -> usize {
+    if hex::encode(bytes, out, at) {
+        at + 2 * bytes.len()
+    } else {
+        at
+    }
+}
+
+// Bytes in a word: `-` for none.
+pub fn bytes(out: &mut [u8], at: usize, bytes: &[u8]) -> usize {
+    if bytes.len() == 0 {
+        return text(out, at, b"-");
+    }
+    digits(out, at, bytes)
+}
+
+pub fn decimal(out: &mut [u8], at: usize, n: u64) -> usize {
+    let mut digits = [0u8; 20];
+    let k = io::decimal(n, &mut digits);
+    text(out, at, &digits[..k])
+}
+
+// A snapshot's text, with `|` for each line feed.
+pub fn bars(out: &mut [u8], at: usize, text: &[u8]) -> usize {
+    if out.len() < at {
+        return at;
+    }
+    if out.len() - at < text.len() {
+        return at;
+    }
+    for i in 0..text.len() {
+        out[at + i] = bar(text[i]);
+    }
+    at + text.len()
+}
+
+fn bar(c: u8) -> u8 {
+    if c == b'\n' { b'|' } else { c }
+}
+
+// The line feed that ends each answer.
+pub fn end(out: &mut [u8], at: usize) -> usize {
+    text(out, at, b"\n")
+}
+
+// A line that is no call.
+pub fn error(out: &mut [u8]) -> usize {
+    text(out, 0, b"error\n")
+}
+
+// A refused call: its number, and for a bad snapshot its line.
+pub fn refused(out: &mut [u8], why: Refusal) -> usize {
+    let said = text(out, 0, b"refused ");
+    let n = refusal::number(why);
+    let at = decimal(out, said, n as u64);
+    match why {
+        Refusal::BadSnapshot { line } => {
+            let space = text(out, at, b" ");
+            let last = decimal(out, space, line as u64);
+            end(out, last)
+        }
+        _ => end(out, at),
+    }
+}

@@ -1,0 +1,150 @@
+// Hands in indexes that no call makes, broken ones and ones that differ in unused places only, and prints what each call answers.
+use console_text::answer;
+use console_text::words;
+use key_index::Holding;
+use key_index::KeyIndex;
+use key_store::Stored;
+use libc::STDOUT_FILENO;
+use refusal::Checked;
+
+fn main() {
+    let ones = [255u8; 32];
+    let zeros = [0u8; 32];
+    let first = key(0, 1);
+    let second = key(0, 2);
+    show(b"empty", index(ones, 0, 0, first, second));
+    show(b"empty, other unused bytes", index(ones, 238, 0, first, second));
+    show(b"two keys", index(ones, 0, 2, first, second));
+    show(b"two keys, other unused bytes", index(ones, 255, 2, first, second));
+    show(b"a key at the cap", index(zeros, 0, 1, key(0, 0), second));
+    show_broken(ones, zeros, first, second);
+}
+
+fn show_broken(ones: [u8; 32], zeros: [u8; 32], first: [u8; 9], second: [u8; 9]) {
+    show(b"a key over the cap", index(zeros, 0, 1, first, second));
+    show(b"241 keys", index(ones, 0, 241, first, second));
+    show(b"the largest count", index(ones, 0, usize::MAX, first, second));
+    show(b"a bad selector", index(ones, 0, 2, first, key(2, 2)));
+    show(b"the largest selector", index(ones, 0, 1, key(255, 1), second));
+    show(b"farthest first", index(ones, 0, 2, second, first));
+    show(b"equal keys", index(ones, 0, 2, first, first));
+    show(b"240 keys, most of them equal", index(ones, 0, 240, first, second));
+}
+
+// A key by its selector and a small block number.
+fn key(selector: u8, number: u8) -> [u8; 9] {
+    [selector, number, 0, 0, 0, 0, 0, 0, 0]
+}
+
+// An index of node id zero: two keys in front, and one byte in all other places.
+fn index(cap: [u8; 32], fill: u8, count: usize, first: [u8; 9], second: [u8; 9]) -> KeyIndex {
+    let mut keys = [fill; 2160];
+    for i in 0..9 {
+        keys[i] = first[i];
+        keys[i + 9] = second[i];
+    }
+    KeyIndex {
+        node: [0u8; 32],
+        cap,
+        count,
+        keys,
+    }
+}
+
+// Prints what the calls answer on the index.
+fn show(name: &[u8], index: KeyIndex) {
+    let mut out = [0u8; 1024];
+    let named = answer::text(&mut out, 0, name);
+    let at = answer::end(&mut out, named);
+    let asked = radius_line(index, &mut out, at);
+    let held = holds_line(index, &mut out, asked);
+    let stored = store_line(index, &mut out, held);
+    let last = remove_line(index, &mut out, stored);
+    io::write_all(STDOUT_FILENO, words::front(&out, last));
+}
+
+fn radius_line(index: KeyIndex, out: &mut [u8], from: usize) -> usize {
+    let at = answer::text(out, from, b"  radius ");
+    let found = key_index::radius(index);
+    let value = found.radius;
+    let checked = found.checked;
+    match checked {
+        Checked::Accepted => {
+            let last = answer::digits(out, at, &value);
+            answer::end(out, last)
+        }
+        Checked::Refused(why) => number_line(refusal::number(why), out, at),
+    }
+}
+
+fn number_line(n: u8, out: &mut [u8], from: usize) -> usize {
+    let at = answer::text(out, from, b"refused ");
+    let last = answer::decimal(out, at, n as u64);
+    answer::end(out, last)
+}
+
+fn holds_line(index: KeyIndex, out: &mut [u8], from: usize) -> usize {
+    let at = answer::text(out, from, b"  holds body 1: ");
+    let bytes = key(0, 1);
+    let holding = key_index::holds(index, &bytes);
+    match holding {
+        Holding::Yes => answer::text(out, at, b"yes\n"),
+        Holding::No => answer::text(out, at, b"no\n"),
+        Holding::Refused(why) => number_line(refusal::number(why), out, at),
+    }
+}
+
+fn store_line(index: KeyIndex, out: &mut [u8], from: usize) -> usize {
+    let at = answer::text(out, from, b"  store body 0: ");
+    let bytes = key(0, 0);
+    let done = key_store::store(index, &bytes, b"\xc0");
+    let next = done.index;
+    let how = done.stored;
+    let said = kept_word(index, next, out, at);
+    match how {
+        Stored::Kept => answer::text(out, said, b"stored\n"),
+        Stored::Evicting => answer::text(out, said, b"stored, one evicted\n"),
+        Stored::Refused(why) => number_line(refusal::number(why), out, said),
+    }
+}
+
+fn remove_line(index: KeyIndex, out: &mut [u8], from: usize) -> usize {
+    let at = answer::text(out, from, b"  remove body 1: ");
+    let bytes = key(0, 1);
+    let done = key_remove::remove(index, &bytes);
+    let next = done.index;
+    let checked = done.checked;
+    let said = kept_word(index, next, out, at);
+    match checked {
+        Checked::Accepted => answer::text(out, said, b"removed\n"),
+        Checked::Refused(why) => number_line(refusal::number(why), out, said),
+    }
+}
+
+// Whether the index handed back is the one handed in, byte for byte.
+fn kept_word(before: KeyIndex, after: KeyIndex, out: &mut [u8], at: usize) -> usize {
+    if same(before, after) {
+        answer::text(out, at, b"the very index, ")
+    } else {
+        answer::text(out, at, b"another index, ")
+    }
+}
+
+fn same(a: KeyIndex, b: KeyIndex) -> bool {
+    if a.count != b.count {
+        return false;
+    }
+    let a_node = a.node;
+    let b_node = b.node;
+    if !check::same(&a_node, &b_node) {
+        return false;
+    }
+    let a_cap = a.cap;
+    let b_cap = b.cap;
+    if !check::same(&a_cap, &b_cap) {
+        return false;
+    }
+    let a_keys = a.keys;
+    let b_keys = b.keys;
+    check::same(&a_keys, &b_keys)
+}

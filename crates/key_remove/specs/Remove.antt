@@ -1,0 +1,28 @@
+-- Removing a key, on the view of an index, over the limit on its keys. The tests come in document 01's order: 0, 7, 8, 12.
+use Prim.Native.Nat.{ℕ}
+use mathlib.Core.Bool.{cond}
+use mathlib.Core.List.{List, [], _∷_}
+use Rattle.refusal.specs.Outcome.{Outcome}
+use Rattle.octets.specs.Equal.{sameBytes}
+use Rattle.content_key.specs.Key.{keyOf}
+use Rattle.key_index.specs.View.{View, withKeys}
+use Rattle.key_index.specs.Good.{good}
+use Rattle.key_index.specs.Calls.{isHeld}
+
+-- what a remove call comes to
+pub data Removing : Type 0 where
+  refused : ℕ → Removing
+  removed : View → Removing
+
+-- the keys without one of them; the others keep their order
+unfoldable pub without : List ℕ → List (List ℕ) → List (List ℕ)
+without key [] = []
+without key (k ∷ ks) = cond (sameBytes key k) ks (k ∷ without key ks)
+
+-- 7 or 8 for what is no key, 12 for a key that is not held
+abbrev pub keyRemoveOf : View → Outcome (List ℕ) → Removing
+keyRemoveOf v (Outcome.given key) = cond (isHeld key v) (removed (withKeys v (without key (v .keys)))) (refused 12)
+keyRemoveOf v (Outcome.refused n) = refused n
+
+unfoldable pub removeOf : ℕ → View → List ℕ → Removing
+removeOf limit v bytes = cond (good limit v) (keyRemoveOf v (keyOf bytes)) (refused 0)

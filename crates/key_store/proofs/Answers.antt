@@ -1,0 +1,77 @@
+-- The ways out of `store`, as cases of its definition, and an answer carried from one definition to another. Assumes nothing.
+use Prim.Native.Nat.{ℕ}
+use mathlib.Core.Path.{_≡_, refl, sym, ap, ap₂, _∙_}
+use mathlib.Core.Bool.{Bool, true, false, cond}
+use mathlib.Core.List.{List}
+use lib.Dec.{leb}
+use Rattle.refusal.specs.Outcome.{Outcome}
+use Rattle.octets.specs.Bytes.{be}
+use Rattle.distance.specs.Distance.{xorOf}
+use Rattle.content_key.specs.Key.{keyOf, keyId}
+use Rattle.rlp.specs.Content.{acceptable, contentOf}
+use Rattle.key_index.specs.View.{View}
+use Rattle.key_index.specs.Good.{awayFrom, good, radiusOf}
+use Rattle.key_index.specs.Calls.{isHeld}
+use Rattle.key_index.specs.declared.KeyIndex.{KeyIndex}
+use Rattle.key_store.specs.Store.{Storing, refused, putOf, admitOf, keyStoreOf, storeOf}
+use Rattle.key_store.specs.Answer.{givenBy, meaningOf, evictedOr0}
+use Rattle.key_store.specs.declared.StoreAnswer.{StoreAnswer}
+
+-- what an answer says of an outcome, it says of any way to write the outcome
+pub answer-as : (index : KeyIndex) (r : StoreAnswer) (a s : Storing) → (meaningOf r ≡ givenBy index a) × (r .evicted ≡ evictedOr0 a) → a ≡ s
+    → (meaningOf r ≡ givenBy index s) × (r .evicted ≡ evictedOr0 s)
+answer-as index r a s h e = (h .0 ∙ ap (givenBy index) e, h .1 ∙ ap evictedOr0 e)
+
+-- what comes after the content was examined
+abbrev after : Storing → Outcome (List ℕ) → Storing
+after s (Outcome.given content) = s
+after s (Outcome.refused n) = refused n
+
+after-cond : (s : Storing) (content : List ℕ) (t : Bool) → after s (cond t (Outcome.given content) (Outcome.refused 9)) ≡ cond t s (refused 9)
+after-cond s content true = refl
+after-cond s content false = refl
+
+module _ (limit : ℕ) (v : View) (key : List ℕ) where
+  pub admit-held : isHeld key v ≡ true → refused 11 ≡ admitOf limit v key
+  unfolding admitOf
+  admit-held h = rw h
+
+  pub admit-far : isHeld key v ≡ false → leb (awayFrom (v .node) key) (be (radiusOf limit v)) ≡ false → refused 10 ≡ admitOf limit v key
+  unfolding admitOf
+  admit-far h w = rw (h, w)
+
+  -- the code's test of the distance
+  pub tested : (far reach : List ℕ) (t b : Bool) → far ≡ xorOf (v .node) (keyId key) → reach ≡ radiusOf limit v
+      → t ≡ leb (be far) (be reach) → t ≡ b → leb (awayFrom (v .node) key) (be (radiusOf limit v)) ≡ b
+  tested far reach t b d r e q = sym (ap₂ (λ (x y : List ℕ). leb (be x) (be y)) d r) ∙ sym e ∙ q
+
+  pub admit-put : isHeld key v ≡ false → leb (awayFrom (v .node) key) (be (radiusOf limit v)) ≡ true → putOf limit v key ≡ admitOf limit v key
+  unfolding admitOf
+  admit-put h w = rw (h, w)
+
+module _ (limit : ℕ) (v : View) (bytes content : List ℕ) where
+  pub store-bad : good limit v ≡ false → refused 0 ≡ storeOf limit v bytes content
+  unfolding storeOf
+  store-bad g = rw g
+
+  store-read : (o : Outcome (List ℕ)) → good limit v ≡ true → o ≡ keyOf bytes → keyStoreOf limit v content o ≡ storeOf limit v bytes content
+  unfolding storeOf
+  store-read o g k = rw g (ap (keyStoreOf limit v content) k)
+
+  -- what is no key
+  pub store-key : (n : ℕ) → good limit v ≡ true → Outcome.refused n ≡ keyOf bytes → refused n ≡ storeOf limit v bytes content
+  store-key n g k = store-read (Outcome.refused n) g k
+
+  -- a key, after its content was examined
+  store-after : (key : List ℕ) (o : Outcome (List ℕ)) → good limit v ≡ true → Outcome.given key ≡ keyOf bytes → o ≡ contentOf content
+      → after (admitOf limit v key) o ≡ storeOf limit v bytes content
+  store-after key o g k e =
+      ap (after (admitOf limit v key)) e ∙ after-cond (admitOf limit v key) content (acceptable content) ∙ store-read (Outcome.given key) g k
+
+  pub store-content : (key : List ℕ) (n : ℕ) → good limit v ≡ true → Outcome.given key ≡ keyOf bytes → Outcome.refused n ≡ contentOf content
+      → refused n ≡ storeOf limit v bytes content
+  store-content key n g k e = store-after key (Outcome.refused n) g k e
+
+  pub store-admit : (key read : List ℕ) → good limit v ≡ true → Outcome.given key ≡ keyOf bytes → Outcome.given read ≡ contentOf content
+      → admitOf limit v key ≡ storeOf limit v bytes content
+  store-admit key read g k e = store-after key (Outcome.given read) g k e

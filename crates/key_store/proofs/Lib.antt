@@ -1,0 +1,6 @@
+pub mod Shift
+pub mod Nearer
+pub mod Flat
+pub mod Facts
+pub mod Putting
+pub mod Answers

@@ -1,0 +1,78 @@
+-- `key_store::admitted` meets its contract: each way out is a case of the definition (`proofs/Answers.antt`); a place is found exactly where
+-- the key is held. Assumes nothing.
+use mathlib.Core.Path.{_≡_, sym, _∙_}
+use borrow.Author.Tests.{not-true, not-false}
+use Rattle.key_index.specs.View.{view}
+use Rattle.key_index.proofs.Places.{at-held, nothing-held}
+use Rattle.key_store.specs.Store.{refused, putOf, admitOf}
+use Rattle.key_store.proofs.Answers.{answer-as, admit-held, admit-far, admit-put, tested}
+use borrow.Author.Needs.{needs}
+use Rattle.key_store.proofs.admitted.Statement.{statement}
+use Rattle.key_store.proofs.admitted.Tie as tie
+
+find-requires : tie.Need-find-requires
+find-requires c κs = search needs
+
+enum-told : tie.Need-enum-told
+enum-told c = search needs
+
+refused-requires : tie.Need-refused-requires
+refused-requires c κs = search needs
+
+returns : tie.Need-returns
+returns c =
+    let a = c .before .before .before .before .before .before .before .args in
+    answer-as (a .t1) (c .refused .result) (refused 11) (admitOf 240 (view (a .t1)) (a .key)) (c .refused .ensures)
+    (admit-held 240 (view (a .t1)) (a .key) (at-held _ _ _ (sym (c .before .before .before .find .ensures) ∙ c .before .enum-told .given .1)))
+
+enum-told-2 : tie.Need-enum-told-2
+enum-told-2 c = search needs
+
+away-requires : tie.Need-away-requires
+away-requires c κs = search needs
+
+reach-requires : tie.Need-reach-requires
+reach-requires c κs = search needs
+
+at-most-requires : tie.Need-at-most-requires
+at-most-requires c κs = search needs
+
+refused-requires-2 : tie.Need-refused-requires-2
+refused-requires-2 c κs = search needs
+
+returns-2 : tie.Need-returns-2
+returns-2 c =
+    let a = c .before .before .before .before .before .before .before .before .before .before .before .before .args in
+    answer-as (a .t1) (c .refused2 .result) (refused 10) (admitOf 240 (view (a .t1)) (a .key)) (c .refused2 .ensures)
+    (admit-far 240 (view (a .t1)) (a .key) (nothing-held _ _ (sym (c .before .before .before .before .before .before .before .before .find .ensures) ∙ c .before .before .before .before .before .before .enum-told2 .given .1))
+    (tested 240 (view (a .t1)) (a .key) _ _ _ _ (c .before .before .before .before .away .ensures) (c .before .before .before .reach .ensures) (c .before .before .at-most .ensures) (not-true _ (c .before .if1 .taken))))
+
+put-requires : tie.Need-put-requires
+put-requires c κs =
+    let s = c .before .before .before .before .before .before .before .before .before .before .before in
+    let a = s .args in
+    (s .pre, (nothing-held _ _ (sym (c .before .before .before .before .before .before .before .find .ensures) ∙ c .before .before .before .before .before .enum-told2 .given .1), (tested 240 (view (a .t1)) (a .key) _ _ _ _ (c .before .before .before .away .ensures) (c .before .before .reach .ensures) (c .before .at-most .ensures) (not-false _ (c .if1 .left)), c .before .before .before .away .ensures)))
+
+returns-3 : tie.Need-returns-3
+returns-3 c =
+    let a = c .before .before .before .before .before .before .before .before .before .before .before .before .args in
+    answer-as (a .t1) (c .put .result) (putOf 240 (view (a .t1)) (a .key)) (admitOf 240 (view (a .t1)) (a .key)) (c .put .ensures)
+    (admit-put 240 (view (a .t1)) (a .key) (nothing-held _ _ (sym (c .before .before .before .before .before .before .before .before .find .ensures) ∙ c .before .before .before .before .before .before .enum-told2 .given .1))
+    (tested 240 (view (a .t1)) (a .key) _ _ _ _ (c .before .before .before .before .away .ensures) (c .before .before .before .reach .ensures) (c .before .before .at-most .ensures) (not-false _ (c .before .if1 .left))))
+
+pub admitted-spec : {M : Type 1} → statement M
+admitted-spec =
+    tie.close
+    (tie.spec
+    find-requires
+    enum-told
+    refused-requires
+    returns
+    enum-told-2
+    away-requires
+    reach-requires
+    at-most-requires
+    refused-requires-2
+    returns-2
+    put-requires
+    returns-3)

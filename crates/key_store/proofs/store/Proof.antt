@@ -1,0 +1,101 @@
+-- `key_store::store` meets its contract: each way out is a case of the definition (`proofs/Answers.antt`). Assumes nothing.
+use mathlib.Core.Path.{_≡_, sym, _∙_}
+use denote.Ref.{now}
+use borrow.Author.Tests.{not-true, not-false}
+use Rattle.refusal.proofs.Outcomes.{was-given, was-refused}
+use Rattle.key_index.specs.View.{view}
+use Rattle.key_store.specs.Store.{refused, storeOf}
+use Rattle.key_store.proofs.Answers.{answer-as, store-bad, store-key, store-content, store-admit}
+use borrow.Author.Needs.{needs}
+use Rattle.key_store.proofs.store.Statement.{statement}
+use Rattle.key_store.proofs.store.Tie as tie
+
+is-good-requires : tie.Need-is-good-requires
+is-good-requires c κs = search needs
+
+refused-requires : tie.Need-refused-requires
+refused-requires c κs = search needs
+
+returns : tie.Need-returns
+returns c =
+    let a = c .before .before .before .before .before .args in
+    let v = view (a .index) in
+    let s = storeOf 240 v (now (a .bytes)) (now (a .content)) in
+    answer-as (a .index) (c .refused .result) (refused 0) s (c .refused .ensures)
+    (store-bad 240 v (now (a .bytes)) (now (a .content)) (sym (c .before .before .is-good .ensures) ∙ not-true _ (c .before .if1 .taken)))
+
+key-requires : tie.Need-key-requires
+key-requires c κs = search needs
+
+enum-known-checked : tie.Need-enum-known-checked
+enum-known-checked c = search needs
+
+refused-requires-2 : tie.Need-refused-requires-2
+refused-requires-2 c κs = search needs
+
+returns-2 : tie.Need-returns-2
+returns-2 c =
+    let a = c .before .before .before .before .before .before .before .before .before .args in
+    let v = view (a .index) in
+    let s = storeOf 240 v (now (a .bytes)) (now (a .content)) in
+    answer-as (a .index) (c .refused2 .result) _ s (c .refused2 .ensures)
+    (store-key 240 v (now (a .bytes)) (now (a .content)) _ (sym (c .before .before .before .before .before .before .is-good .ensures) ∙ not-false _ (c .before .before .before .before .before .if1 .left))
+    (was-refused _ _ (c .before .before .before .before .key .ensures .0) (c .before .before .checked .given .1)))
+
+enum-told : tie.Need-enum-told
+enum-told c = search needs
+
+check-requires : tie.Need-check-requires
+check-requires c κs = search needs
+
+enum-known-passed : tie.Need-enum-known-passed
+enum-known-passed c = search needs
+
+refused-requires-3 : tie.Need-refused-requires-3
+refused-requires-3 c κs = search needs
+
+returns-3 : tie.Need-returns-3
+returns-3 c =
+    let a = c .before .before .before .before .before .before .before .before .before .before .before .before .args in
+    let v = view (a .index) in
+    let s = storeOf 240 v (now (a .bytes)) (now (a .content)) in
+    answer-as (a .index) (c .refused3 .result) _ s (c .refused3 .ensures)
+    (store-content 240 v (now (a .bytes)) (now (a .content)) _ _ (sym (c .before .before .before .before .before .before .before .before .before .is-good .ensures) ∙ not-false _ (c .before .before .before .before .before .before .before .before .if1 .left))
+    (was-given _ _ (c .before .before .before .before .before .before .before .key .ensures .0) (c .before .before .before .before .before .enum-told .given .1))
+    (was-refused _ _ (c .before .before .before .before .check .ensures) (c .before .before .passed .given .1)))
+
+enum-told-2 : tie.Need-enum-told-2
+enum-told-2 c = search needs
+
+admitted-requires : tie.Need-admitted-requires
+admitted-requires c κs = sym (c .before .before .before .before .before .before .before .before .is-good .ensures) ∙ not-false _ (c .before .before .before .before .before .before .before .if1 .left)
+
+returns-4 : tie.Need-returns-4
+returns-4 c =
+    let a = c .before .before .before .before .before .before .before .before .before .before .before .before .args in
+    let v = view (a .index) in
+    let s = storeOf 240 v (now (a .bytes)) (now (a .content)) in
+    answer-as (a .index) (c .admitted .result) _ s (c .admitted .ensures)
+    (store-admit 240 v (now (a .bytes)) (now (a .content)) _ _ (sym (c .before .before .before .before .before .before .before .before .before .is-good .ensures) ∙ not-false _ (c .before .before .before .before .before .before .before .before .if1 .left))
+    (was-given _ _ (c .before .before .before .before .before .before .before .key .ensures .0) (c .before .before .before .before .before .enum-told .given .1))
+    (was-given _ _ (c .before .before .before .before .check .ensures) (c .before .before .enum-told2 .given .1)))
+
+pub store-spec : {M : Type 1} → statement M
+store-spec =
+    tie.close
+    (tie.spec
+    is-good-requires
+    refused-requires
+    returns
+    key-requires
+    enum-known-checked
+    refused-requires-2
+    returns-2
+    enum-told
+    check-requires
+    enum-known-passed
+    refused-requires-3
+    returns-3
+    enum-told-2
+    admitted-requires
+    returns-4)

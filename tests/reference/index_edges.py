@@ -1,0 +1,58 @@
+"""What the program `index_edges` prints: the calls on indexes that no call makes."""
+from history import Refused, digits, make_key
+from index import Index
+
+ONES = 2**256 - 1
+FIRST, SECOND = make_key(0, 1), make_key(0, 2)
+
+
+def broken(index, count):
+    """The rules of an index: its count, selectors, strict order and cap."""
+    if count > 240 or any(k[0] > 1 for k in index.keys):
+        return True
+    away = [index.away(k) for k in index.keys]
+    return any(d > index.cap for d in away) or any(a >= b for a, b in zip(away, away[1:]))
+
+
+def lines(name, cap, count, keys):
+    def tell(call, word=None):
+        try:
+            if broken(index, count):
+                raise Refused(0)
+            answer = call()
+            return (word and 'another index, ' + word) or answer
+        except Refused as why:
+            return (word and 'the very index, ' or '') + 'refused %d' % why.number
+
+    def made():
+        found = Index(0, cap)
+        found.keys = (keys + [bytes(9)] * 238)[: min(count, 240)]
+        return found
+
+    index = made()
+    yield name
+    yield '  radius ' + tell(lambda: digits(index.radius()))
+    yield '  holds body 1: ' + tell(lambda: 'yes' if FIRST in index.keys else 'no')
+    yield '  store body 0: ' + tell(lambda: index.store(bytes(9), b'\xc0'), 'stored')
+    index = made()
+    yield '  remove body 1: ' + tell(lambda: index.remove(FIRST), 'removed')
+
+
+def output():
+    both = [FIRST, SECOND]
+    cases = [
+        ('empty', ONES, 0, both),
+        ('empty, other unused bytes', ONES, 0, both),
+        ('two keys', ONES, 2, both),
+        ('two keys, other unused bytes', ONES, 2, both),
+        ('a key at the cap', 0, 1, [bytes(9), SECOND]),
+        ('a key over the cap', 0, 1, both),
+        ('241 keys', ONES, 241, both),
+        ('the largest count', ONES, 2**64 - 1, both),
+        ('a bad selector', ONES, 2, [FIRST, make_key(2, 2)]),
+        ('the largest selector', ONES, 1, [make_key(255, 1), SECOND]),
+        ('farthest first', ONES, 2, [SECOND, FIRST]),
+        ('equal keys', ONES, 2, [FIRST, FIRST]),
+        ('240 keys, most of them equal', ONES, 240, both),
+    ]
+    return ''.join(line + '\n' for case in cases for line in lines(*case)).encode()

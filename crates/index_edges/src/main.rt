@@ -13,9 +13,15 @@ fn main() {
     let first = key(0, 1);
     let second = key(0, 2);
     show(b"empty", index(ones, 0, 0, first, second));
-    show(b"empty, other unused bytes", index(ones, 238, 0, first, second));
+    show(
+        b"empty, other unused bytes",
+        index(ones, 238, 0, first, second),
+    );
     show(b"two keys", index(ones, 0, 2, first, second));
-    show(b"two keys, other unused bytes", index(ones, 255, 2, first, second));
+    show(
+        b"two keys, other unused bytes",
+        index(ones, 255, 2, first, second),
+    );
     show(b"a key at the cap", index(zeros, 0, 1, key(0, 0), second));
     show_broken(ones, zeros, first, second);
 }
@@ -23,12 +29,21 @@ fn main() {
 fn show_broken(ones: [u8; 32], zeros: [u8; 32], first: [u8; 9], second: [u8; 9]) {
     show(b"a key over the cap", index(zeros, 0, 1, first, second));
     show(b"241 keys", index(ones, 0, 241, first, second));
-    show(b"the largest count", index(ones, 0, usize::MAX, first, second));
+    show(
+        b"the largest count",
+        index(ones, 0, usize::MAX, first, second),
+    );
     show(b"a bad selector", index(ones, 0, 2, first, key(2, 2)));
-    show(b"the largest selector", index(ones, 0, 1, key(255, 1), second));
+    show(
+        b"the largest selector",
+        index(ones, 0, 1, key(255, 1), second),
+    );
     show(b"farthest first", index(ones, 0, 2, second, first));
     show(b"equal keys", index(ones, 0, 2, first, first));
-    show(b"240 keys, most of them equal", index(ones, 0, 240, first, second));
+    show(
+        b"240 keys, most of them equal",
+        index(ones, 0, 240, first, second),
+    );
 }
 
 // A key by its selector and a small block number.

@@ -1,15 +1,16 @@
 -- What the cases of storing rest on: a key that is not held has a distance of its own, since a distance gives its key back; a full index
 -- has a last key, which is its farthest. Assumes nothing.
 use Prim.Native.Nat.{ℕ, suc, _*_, _≤_, _<_}
+use native.Mathlib.Nat.{le-of-lt}
 use native.Mathlib.Omega.{arith}
 use mathlib.Core.Path.{_≡_, refl, sym, ap, subst, _∙_}
 use mathlib.Core.Bool.{Bool, true, false, true≢false}
-use mathlib.Core.List.{List, [], _∷_, _++_, List·Memᴰ, Memᴰ·map, Memᴰ·of-map, Memᴰ·cast}
-use lib.Dec.{leb}
-use lib.ListN.{length, getD}
-use borrow.Author.Tests.{leb-true, le-ltb, lt-ltb}
+use mathlib.Core.List.{List, [], _∷_, _++_, List·Memᴰ, Memᴰ·map, Memᴰ·of-map, Memᴰ·cast, List·Memᴰ·not-nil, List·Memᴰ·append-cases, List·Memᴰ·eq-of-singleton}
+use mathlib.Core.Logic.{⊎-elim}
+use lib.Dec.{ltb}
+use lib.ListN.{length}
+use borrow.Author.Tests.{le-ltb, lt-ltb, ltb-true, ltb-false}
 use Rattle.octets.specs.Bytes.{Bytes, be}
-use Rattle.octets.specs.Equal.{sameBytes}
 use Rattle.octets.proofs.Numbers.{bytes-at}
 use Rattle.octets.proofs.Equal.{member-holds}
 use Rattle.distance.specs.Distance.{xorOf}
@@ -18,13 +19,14 @@ use Rattle.content_key.specs.Key.{keyId, selectorOf, blockOf}
 use Rattle.content_key.proofs.Ids.{id-length, id-bytes-ok, key-id-inj}
 use Rattle.nearest.specs.Sorted.{_among_, distances}
 use Rattle.nearest.specs.Sorted as near
+use Rattle.nearest.proofs.Sorted.{sorted-last}
 use Rattle.nearest.proofs.Lists.{middle-self, last-split}
 use Rattle.key_index.specs.View.{View, chunks, keyAt}
 use Rattle.key_index.specs.Good.{awayFrom, good, lastOf, radiusOf}
 use Rattle.key_index.specs.Calls.{isHeld}
 use Rattle.key_index.proofs.Each.{Each, each-member}
 use Rattle.key_index.proofs.Chunks.{NineBytes, chunks-length, keyAt-in}
-use Rattle.key_index.proofs.Rules.{SortedFrom, good-facts}
+use Rattle.key_index.proofs.Rules.{SortedFrom, Good, good-facts}
 use Rattle.key_index.proofs.Answers.{last-chunks}
 
 -- a view made of bytes, as that of any index: a node id of 32 and keys of nine
@@ -91,6 +93,32 @@ module _ (limit : ℕ) (v : View) where
       subst (λ (l : List (List ℕ)). lastOf (v .keys) among l) (sym (s .1)) (middle-self (s .0) (lastOf (v .keys)) []) in
       let n : ¬ (awayFrom (v .node) key ≡ awayFrom (v .node) (lastOf (v .keys))) = λ e. new (Memᴰ·cast e (Memᴰ·map (awayFrom (v .node)) i)) in
       omega (arith, ap be (reach-full full))
+
+  -- a held key is within the radius, so 10 and 11 are never both due
+  pub held-within : (key : List ℕ) → good limit v ≡ true → key among v .keys → awayFrom (v .node) key ≤ be (radiusOf limit v)
+  held-within key g m = go (ltb (length (v .keys)) limit) refl
+    where
+      f : Good limit v
+      f = good-facts limit v g
+
+      some : (l : List (List ℕ)) → key among l → 0 < length l
+      some [] n = absurd (List·Memᴰ·not-nil n)
+      some (k ∷ l) n = omega arith
+
+      last : 0 < length (v .keys) → awayFrom (v .node) key ≤ awayFrom (v .node) (lastOf (v .keys))
+      last h =
+          let s = last-apart (v .keys) h in
+          let far = lastOf (v .keys) in
+          let sorted : near.SortedFrom (awayFrom (v .node)) 0 (s .0 ++ far ∷ []) =
+          subst (λ (l : List (List ℕ)). near.SortedFrom (awayFrom (v .node)) 0 l) (s .1) (sorted-near (v .node) 0 (v .keys) (f .each .sorted)) in
+          ⊎-elim (λ i. le-of-lt (sorted-last (awayFrom (v .node)) 0 (s .0) far sorted i)) (λ i. omega (arith, ap (awayFrom (v .node)) (List·Memᴰ·eq-of-singleton i)))
+          (List·Memᴰ·append-cases (s .0) (subst (λ (l : List (List ℕ)). key among l) (s .1) m))
+
+      go : (t : Bool) → ltb (length (v .keys)) limit ≡ t → awayFrom (v .node) key ≤ be (radiusOf limit v)
+      go true e =
+          let w : awayFrom (v .node) key ≤ be (v .cap) = each-member (λ (k : List ℕ). awayFrom (v .node) k ≤ be (v .cap)) (v .keys) (f .each .within) m in
+          omega (arith, ap be (reach-room (ltb-true (length (v .keys)) limit e)))
+      go false e = omega (arith, ap be (reach-full (ltb-false (length (v .keys)) limit e)), last (some (v .keys) m))
 
 -- a flat array of as many keys as the limit
 module _ (n count : ℕ) (node cap b : List ℕ) (g : good (suc n) (record { node = node; cap = cap; keys = chunks count b }) ≡ true)

@@ -4,3 +4,5 @@ pub mod Flat
 pub mod Facts
 pub mod Putting
 pub mod Answers
+pub mod Cases
+pub mod After

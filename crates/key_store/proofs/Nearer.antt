@@ -1,10 +1,10 @@
 -- Counting the keys that are nearer: the steps of the count in a flat array, and that a key at a new distance is inserted behind as many keys
 -- as are nearer. Each law goes by recursion on the list. Assumes nothing.
-use Prim.Native.Nat.{ℕ, zero, suc, _+_, _-_, _*_, _≤_, _<_}
+use Prim.Native.Nat.{ℕ, suc, _+_, _-_, _*_, _≤_, _<_}
 use native.Mathlib.Nat.{zero-add}
 use native.Mathlib.Numerals.{add-one}
 use native.Mathlib.Omega.{arith}
-use mathlib.Core.Path.{_≡_, refl, sym, ap, ap₂, _∙_}
+use mathlib.Core.Path.{_≡_, refl, sym, ap, _∙_}
 use mathlib.Core.Bool.{Bool, true, false, cond}
 use mathlib.Core.List.{List, [], _∷_, _++_, List·Memᴰ·head as here, List·Memᴰ·tail as there}
 use lib.Dec.{ltb}
@@ -56,9 +56,6 @@ unfolding nearer insert
 insert-behind node key [] new = refl
 insert-behind node key (k ∷ ks) new = go (ltb (awayFrom node k) (awayFrom node key)) refl (insert-behind node key ks (λ m. new (there m)))
   where
-    p : ℕ
-    p = nearer node (awayFrom node key) ks
-
     go : (t : Bool) → ltb (awayFrom node k) (awayFrom node key) ≡ t
         → insert (awayFrom node) key ks ≡ take (nearer node (awayFrom node key) ks) ks ++ key ∷ drop (nearer node (awayFrom node key) ks) ks
         → insert (awayFrom node) key (k ∷ ks)

@@ -20,7 +20,7 @@ use Rattle.key_index.specs.Calls.{isHeld}
 use Rattle.key_index.specs.declared.KeyIndex.{KeyIndex}
 use Rattle.key_index.proofs.Chunks.{NineBytes, chunks-length, chunks-more, keyAt-in}
 use Rattle.key_index.proofs.Rules.{good-facts}
-use Rattle.key_store.specs.Store.{Storing, stored, evicted, putOf}
+use Rattle.key_store.specs.Store.{stored, evicted, putOf}
 use Rattle.key_store.specs.Move.{nearer, keyAtPlace, withBytes}
 use Rattle.key_store.proofs.Nearer.{nearer-most, nearer-front, insert-behind}
 use Rattle.key_store.proofs.Flat.{chunks-place}

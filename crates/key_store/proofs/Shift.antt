@@ -1,10 +1,10 @@
 -- The move of bytes. `raised-step` is one turn of the move, counted down; `moved` joins the move and the key written to the key at its
 -- place. Assumes nothing.
-use Prim.Native.Nat.{ℕ, zero, suc, _+_, _-_, _*_, _≤_, _<_}
+use Prim.Native.Nat.{ℕ, suc, _+_, _-_, _*_, _≤_, _<_}
 use native.Mathlib.Nat.{suc-add}
 use native.Mathlib.Omega.{arith}
-use mathlib.Core.Path.{_≡_, refl, sym, ap, ap₂, _∙_}
-use mathlib.Core.List.{List, [], _∷_, _++_}
+use mathlib.Core.Path.{_≡_, sym, ap, ap₂, _∙_}
+use mathlib.Core.List.{List, _++_}
 use lib.ListN.{length, getD, set, take, drop, take-append-drop, List·getD-append}
 use lib.Seq.{take-suc, drop-cons, append-snoc, set-at, getD-take, take-take, take-append-le, drop-at, length-take-le}
 use Rattle.key_store.specs.Move.{raisedBy, keyAtPlace}

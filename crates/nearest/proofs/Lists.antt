@@ -1,11 +1,11 @@
 -- Membership in lists. Assumes nothing.
-use Prim.Native.Nat.{ℕ, suc, _<_}
+use Prim.Native.Nat.{ℕ, zero, suc, _<_}
 use native.Mathlib.Decide.{ℕ-discrete}
 use native.Mathlib.Omega.{arith}
 use mathlib.Core.Path.{_≡_, refl, ap}
 use mathlib.Core.Logic.{_⊎_, inl, inr, ⊎-elim}
 use mathlib.Core.List.{List, [], _∷_, _++_, List·Memᴰ·head as here, List·Memᴰ·tail as there, List·Memᴰ·not-nil, List·Memᴰ·cases-cons}
-use lib.ListN.{length}
+use lib.ListN.{length, take}
 use Rattle.nearest.specs.Sorted.{_among_}
 
 -- whether a number is in a list is decided
@@ -19,6 +19,13 @@ among? d (e ∷ l) = by (ℕ-discrete d e) (among? d l)
     by (no p) (no q) = no (λ m. ⊎-elim p q (List·Memᴰ·cases-cons m))
 
 module _ {K : Type 0} where
+  -- what is in a list's front is in the list
+  pub among-take : {k : K} (n : ℕ) (l : List K) → k among take n l → k among l
+  among-take zero l m = absurd (List·Memᴰ·not-nil m)
+  among-take (suc n) [] m = absurd (List·Memᴰ·not-nil m)
+  among-take (suc n) (j ∷ js) (here e) = here e
+  among-take (suc n) (j ∷ js) (there m) = there (among-take n js m)
+
   -- what is in a list that has j in the middle is j or one of the others
   pub among-middle : {k : K} (xs : List K) (j : K) (ys : List K) → k among (xs ++ j ∷ ys) → (k ≡ j) ⊎ (k among (xs ++ ys))
   among-middle [] j ys m = List·Memᴰ·cases-cons m

@@ -1,14 +1,30 @@
 -- `key_store::admitted` meets its contract: each way out is a case of the definition (`proofs/Answers.antt`); a place is found exactly where
 -- the key is held. Assumes nothing.
 use mathlib.Core.Path.{_≡_, sym, _∙_}
+use mathlib.Core.Bool.{Bool, false}
+use lib.Dec.{leb}
 use borrow.Author.Tests.{not-true, not-false}
+use Rattle.octets.specs.Bytes.{be}
 use Rattle.key_index.specs.View.{view}
+use Rattle.key_index.specs.Good.{awayFrom, radiusOf}
+use Rattle.key_index.specs.Calls.{isHeld}
 use Rattle.key_index.proofs.Places.{at-held, nothing-held}
 use Rattle.key_store.specs.Store.{refused, putOf, admitOf}
 use Rattle.key_store.proofs.Answers.{answer-as, admit-held, admit-far, admit-put, tested}
 use borrow.Author.Needs.{needs}
 use Rattle.key_store.proofs.admitted.Statement.{statement}
 use Rattle.key_store.proofs.admitted.Tie as tie
+
+-- the key is not held, where no place was found
+out : (c : tie.After-enum-told2) → isHeld (c .before .before .before .before .before .before .args .key) (view (c .before .before .before .before .before .before .args .t1)) ≡ false
+out c = nothing-held _ _ (sym (c .before .before .find .ensures) ∙ c .enum-told2 .given .1)
+
+-- what the test of the distance says
+near : (c : tie.After-at-most) (b : Bool) → c .at-most .result ≡ b
+    → leb (awayFrom (c .before .before .before .before .before .before .before .before .before .before .args .t1 .node) (c .before .before .before .before .before .before .before .before .before .before .args .key)) (be (radiusOf 240 (view (c .before .before .before .before .before .before .before .before .before .before .args .t1)))) ≡ b
+near c b e =
+    let a = c .before .before .before .before .before .before .before .before .before .before .args in
+    tested 240 (view (a .t1)) (a .key) _ _ _ b (c .before .before .away .ensures) (c .before .reach .ensures) (c .at-most .ensures) e
 
 find-requires : tie.Need-find-requires
 find-requires c κs = search needs
@@ -44,21 +60,17 @@ returns-2 : tie.Need-returns-2
 returns-2 c =
     let a = c .before .before .before .before .before .before .before .before .before .before .before .before .args in
     answer-as (a .t1) (c .refused2 .result) (refused 10) (admitOf 240 (view (a .t1)) (a .key)) (c .refused2 .ensures)
-    (admit-far 240 (view (a .t1)) (a .key) (nothing-held _ _ (sym (c .before .before .before .before .before .before .before .before .find .ensures) ∙ c .before .before .before .before .before .before .enum-told2 .given .1))
-    (tested 240 (view (a .t1)) (a .key) _ _ _ _ (c .before .before .before .before .away .ensures) (c .before .before .before .reach .ensures) (c .before .before .at-most .ensures) (not-true _ (c .before .if1 .taken))))
+    (admit-far 240 (view (a .t1)) (a .key) (out (c .before .before .before .before .before .before)) (near (c .before .before) _ (not-true _ (c .before .if1 .taken))))
 
 put-requires : tie.Need-put-requires
 put-requires c κs =
-    let s = c .before .before .before .before .before .before .before .before .before .before .before in
-    let a = s .args in
-    (s .pre, (nothing-held _ _ (sym (c .before .before .before .before .before .before .before .find .ensures) ∙ c .before .before .before .before .before .enum-told2 .given .1), (tested 240 (view (a .t1)) (a .key) _ _ _ _ (c .before .before .before .away .ensures) (c .before .before .reach .ensures) (c .before .at-most .ensures) (not-false _ (c .if1 .left)), c .before .before .before .away .ensures)))
+    (c .before .before .before .before .before .before .before .before .before .before .before .pre, (out (c .before .before .before .before .before), (near (c .before) _ (not-false _ (c .if1 .left)), c .before .before .before .away .ensures)))
 
 returns-3 : tie.Need-returns-3
 returns-3 c =
     let a = c .before .before .before .before .before .before .before .before .before .before .before .before .args in
     answer-as (a .t1) (c .put .result) (putOf 240 (view (a .t1)) (a .key)) (admitOf 240 (view (a .t1)) (a .key)) (c .put .ensures)
-    (admit-put 240 (view (a .t1)) (a .key) (nothing-held _ _ (sym (c .before .before .before .before .before .before .before .before .find .ensures) ∙ c .before .before .before .before .before .before .enum-told2 .given .1))
-    (tested 240 (view (a .t1)) (a .key) _ _ _ _ (c .before .before .before .before .away .ensures) (c .before .before .before .reach .ensures) (c .before .before .at-most .ensures) (not-false _ (c .before .if1 .left))))
+    (admit-put 240 (view (a .t1)) (a .key) (out (c .before .before .before .before .before .before)) (near (c .before .before) _ (not-false _ (c .before .if1 .left))))
 
 pub admitted-spec : {M : Type 1} → statement M
 admitted-spec =

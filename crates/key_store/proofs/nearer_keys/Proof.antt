@@ -1,9 +1,7 @@
 -- `key_store::nearer_keys` meets its contract. The invariant: the first i keys are nearer, and the rest is still to be counted; its steps are
 -- laws of `proofs/Nearer.antt`. The measure is what is left of the count. Assumes nothing.
-use Prim.Native.Nat.{ℕ, _-_, _*_, _≤_}
-use native.Mathlib.Omega.{arith}
-use mathlib.Core.Path.{_≡_, sym, _∙_}
-use lib.ListN.{length}
+use Prim.Native.Nat.{_-_, _≤_}
+use mathlib.Core.Path.{sym, _∙_}
 use borrow.Author.Needs.{needs}
 use borrow.Author.Tests.{leb-true, leb-false}
 use Rattle.octets.specs.Bytes.{be}
@@ -32,7 +30,9 @@ at-most-requires c κs = search needs
 returns : tie.Need-returns Inv-loop μ-loop
 returns c =
     let at = c .before .before .before .before .before in
-    count-here _ _ _ _ (at .loop .i) (at .loop .inv .1) (c .before .before .before .before .loop-test .taken) (at .before .before .pre) _ (c .before .before .before .key-at .ensures) _ (c .before .before .away .ensures) (leb-true _ _ (sym (c .before .at-most .ensures) ∙ c .if1 .taken))
+    count-here _ _ _ _ (at .loop .i) (at .loop .inv .1) (c .before .before .before .before .loop-test .taken) (at .before .before .pre) _
+    (c .before .before .before .key-at .ensures) _ (c .before .before .away .ensures)
+    (leb-true _ _ (sym (c .before .at-most .ensures) ∙ c .if1 .taken))
 
 add-i : tie.Need-add-i Inv-loop μ-loop
 add-i c = search needs
@@ -43,7 +43,11 @@ loop-less c = search needs
 loop-again : tie.Need-loop-again Inv-loop μ-loop
 loop-again c =
     let at = c .before .before .before .before .before in
-    (search needs, count-next _ _ _ _ (at .loop .i) (at .loop .inv .1) (c .before .before .before .before .loop-test .taken) (at .before .before .pre) _ (c .before .before .before .key-at .ensures) _ (c .before .before .away .ensures) (leb-false _ _ (sym (c .before .at-most .ensures) ∙ c .if1 .left)))
+    let next =
+    count-next _ _ _ _ (at .loop .i) (at .loop .inv .1) (c .before .before .before .before .loop-test .taken) (at .before .before .pre) _
+    (c .before .before .before .key-at .ensures) _ (c .before .before .away .ensures)
+    (leb-false _ _ (sym (c .before .at-most .ensures) ∙ c .if1 .left)) in
+    (search needs, next)
 
 returns-2 : tie.Need-returns-2 Inv-loop μ-loop
 returns-2 c =

@@ -8,7 +8,7 @@ use lib.ListN.{length, getD}
 use mir.Val.{Fits}
 use mir.Syntax.{w8}
 use borrow.Author.Tests.{leb-true}
-use Rattle.octets.specs.Bytes.{Bytes, be}
+use Rattle.octets.specs.Bytes.{be}
 use Rattle.octets.proofs.Numbers.{bytes-all}
 use Rattle.key_index.specs.View.{view, chunks}
 use Rattle.key_index.specs.Good.{awayFrom, radiusOf}
@@ -71,13 +71,17 @@ add-with-key : tie.Need-add-with-key
 add-with-key c = search needs
 
 with-key-requires : tie.Need-with-key-requires
-with-key-requires c κs = (place-few (c .before .before .before .before .before .before) _ (c .before .nearer-keys .ensures), c .if1 .taken)
+with-key-requires c κs =
+    let h = place-few (c .before .before .before .before .before .before) _ (c .before .nearer-keys .ensures) in
+    (omega arith, omega arith)
 
 returns : tie.Need-returns
 returns c =
     let s = c .before .before .before .before .before .before .before in
     let a = s .args in
-    let e = room-answer (a .t1) (a .key) (of-bytes s) (nine s) (s .pre .1 .0) (c .before .before .nearer-keys .result) (place s _ (c .before .before .nearer-keys .ensures)) 240 (c .before .if1 .taken) (omega (arith, size s)) in
+    let p = c .before .before .nearer-keys in
+    let e =
+    room-answer (a .t1) (a .key) (of-bytes s) (nine s) (s .pre .1 .0) (p .result) (place s _ (p .ensures)) 240 (c .before .if1 .taken) (omega (arith, size s)) in
     (ap (λ (i : KeyIndex). now (view i)) (c .with-key .ensures) ∙ ap (givenBy (a .t1)) e, ap evictedOr0 e)
 
 sub-key-at : tie.Need-sub-key-at
@@ -94,15 +98,22 @@ with-key-requires-2 c κs =
     let s = c .before .before .before .before .before .before .before .before .before .before in
     let a = s .args in
     let p = c .before .before .before .before .before .nearer-keys in
-    (full-place (a .t1) (a .key) (of-bytes s) (nine s) (s .pre .1 .0) (p .result) (place s _ (p .ensures)) 239 (s .pre .0) (c .before .before .before .before .if1 .left) (omega (arith, size s)) (within s), search needs)
+    let left = c .before .before .before .before .if1 .left in
+    let h =
+    full-place (a .t1) (a .key) (of-bytes s) (nine s) (s .pre .1 .0) (p .result) (place s _ (p .ensures)) 239 (s .pre .0) left (omega (arith, size s)) (within s) in
+    (omega arith, omega arith)
 
 returns-2 : tie.Need-returns-2
 returns-2 c =
     let s = c .before .before .before .before .before .before .before .before .before .before .before in
     let a = s .args in
     let p = c .before .before .before .before .before .before .nearer-keys in
-    let e = full-answer (a .t1) (a .key) (of-bytes s) (nine s) (s .pre .1 .0) (p .result) (place s _ (p .ensures)) 239 (s .pre .0) (c .before .before .before .before .before .if1 .left) (omega (arith, size s)) (within s) (c .before .key-at .result) (c .before .key-at .ensures) in
-    (ap (λ (i : KeyIndex). without (c .before .key-at .result) (view i)) (c .with-key2 .ensures) ∙ ap (givenBy (a .t1)) e, ap evictedOr0 e)
+    let left = c .before .before .before .before .before .if1 .left in
+    let last = c .before .key-at in
+    let e =
+    full-answer (a .t1) (a .key) (of-bytes s) (nine s) (s .pre .1 .0) (p .result) (place s _ (p .ensures)) 239 (s .pre .0) left (omega (arith, size s)) (within s)
+    (last .result) (last .ensures) in
+    (ap (λ (i : KeyIndex). without (last .result) (view i)) (c .with-key2 .ensures) ∙ ap (givenBy (a .t1)) e, ap evictedOr0 e)
 
 pub put-spec : {M : Type 1} → statement M
 put-spec =

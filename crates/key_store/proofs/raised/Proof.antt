@@ -40,7 +40,8 @@ loop-less c = search needs
 loop-again : tie.Need-loop-again Inv-loop μ-loop
 loop-again c =
     let at = c .before in
-    (search needs, search needs, raised-step (at .before .args .keys) (at .loop .moved) (at .before .args .end) (at .loop .j) (omega arith) (omega arith) (long at) (at .loop .inv .2))
+    let a = at .before .args in
+    (search needs, search needs, raised-step (a .keys) (at .loop .moved) (a .end) (at .loop .j) (omega arith) (omega arith) (long at) (at .loop .inv .2))
 
 returns : tie.Need-returns Inv-loop μ-loop
 returns c =

@@ -58,13 +58,15 @@ loop-less c = search needs
 loop-again : tie.Need-loop-again Inv-loop μ-loop
 loop-again c =
     let at = c .before in
-    (search needs, copied (at .before .args .keys) (at .before .args .t3) (at .loop .bytes) (at .before .args .start) (at .loop .j) (nine (at .before)) (omega arith) (long (at .before)) (at .loop .inv .1))
+    let a = at .before .args in
+    (search needs, copied (a .keys) (a .t3) (at .loop .bytes) (a .start) (at .loop .j) (nine (at .before)) (omega arith) (long (at .before)) (at .loop .inv .1))
 
 returns : tie.Need-returns Inv-loop μ-loop
 returns c =
     let at = c .before in
+    let a = at .before .args in
     let e : at .loop .j ≡ 9 = omega arith in
-    at .loop .inv .1 ∙ ap (paste (at .before .args .keys) (at .before .args .start) (at .before .args .t3)) e ∙ whole (at .before .args .keys) (at .before .args .t3) (at .before .args .start) (nine (at .before))
+    at .loop .inv .1 ∙ ap (paste (a .keys) (a .start) (a .t3)) e ∙ whole (a .keys) (a .t3) (a .start) (nine (at .before))
 
 pub written-spec : {M : Type 1} → statement M
 written-spec =

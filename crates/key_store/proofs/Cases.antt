@@ -1,0 +1,117 @@
+-- What a store call on a view of bytes comes to, case by case: each refusal with its reason, a key stored below the limit, and a key stored in
+-- the place of the last one at the limit. The proof takes the tests in their order. Assumes nothing.
+use Prim.Native.Nat.{ℕ, _≤_, _<_}
+use native.Mathlib.Omega.{arith}
+use mathlib.Core.Path.{_≡_, refl, sym, ap, subst, _∙_}
+use mathlib.Core.Bool.{Bool, true, false, cond, true≢false}
+use mathlib.Core.List.{List, [], _∷_, _++_}
+use lib.Dec.{leb, ltb, eqb}
+use lib.ListN.{length}
+use borrow.Author.Tests.{eqb-true, eqb-false, leb-true, leb-false, ltb-true, ltb-false}
+use Rattle.refusal.specs.Outcome.{Outcome}
+use Rattle.octets.specs.Bytes.{Bytes, be}
+use Rattle.octets.proofs.Equal.{holds-member, member-holds}
+use Rattle.content_key.specs.Key.{selectorOf}
+use Rattle.content_key.proofs.Keys.{key-length, key-selector, key-given}
+use Rattle.rlp.specs.Content.{acceptable}
+use Rattle.nearest.specs.Sorted.{_among_, distances}
+use Rattle.nearest.specs.Insert.{insert, offer}
+use Rattle.key_index.specs.View.{View, withKeys}
+use Rattle.key_index.specs.Good.{awayFrom, good, lastOf, radiusOf}
+use Rattle.key_index.specs.Calls.{isHeld}
+use Rattle.key_index.proofs.Rules.{good-facts}
+use Rattle.key_store.specs.Store.{Storing, refused, stored, evicted, putOf, admitOf, storeOf}
+use Rattle.key_store.proofs.Answers.{store-bad, store-key, store-content, store-admit, admit-held, admit-far, admit-put}
+use Rattle.key_store.proofs.Facts.{OfBytes, new-distance, reach-room, nearer-last, last-apart}
+use Rattle.key_store.proofs.Putting.{put-room, put-full}
+
+-- a key with acceptable content, asked of a good index
+pub record Asked (limit : ℕ) (v : View) (key content : List ℕ) : Type 0 where
+  pub kept : good limit v ≡ true
+  pub size : length key ≡ 9
+  pub selector : selectorOf key ≤ 1
+  pub listed : acceptable content ≡ true
+
+-- one that is not held, by its bytes and by its distance
+pub record Fresh (v : View) (key : List ℕ) : Type 0 where
+  pub out : ¬ (key among v .keys)
+  pub apart : ¬ (awayFrom (v .node) key among distances (awayFrom (v .node)) (v .keys))
+
+-- a call and its outcome: each refusal with its reason; stored below the limit; at the limit stored with the last key evicted, which is
+-- farther than the new one
+pub data Stores (limit : ℕ) (v : View) (key content : List ℕ) : Storing → Type 0 where
+  bad : good limit v ≡ false → Stores limit v key content (refused 0)
+  no-length : good limit v ≡ true → ¬ (length key ≡ 9) → Stores limit v key content (refused 7)
+  no-selector : good limit v ≡ true → length key ≡ 9 → 1 < selectorOf key → Stores limit v key content (refused 8)
+  no-content : good limit v ≡ true → length key ≡ 9 → selectorOf key ≤ 1 → acceptable content ≡ false → Stores limit v key content (refused 9)
+  held : Asked limit v key content → key among v .keys → Stores limit v key content (refused 11)
+  beyond : Asked limit v key content → Fresh v key → be (radiusOf limit v) < awayFrom (v .node) key → Stores limit v key content (refused 10)
+  room : Asked limit v key content → Fresh v key → length (v .keys) < limit → awayFrom (v .node) key ≤ be (v .cap)
+      → Stores limit v key content (stored (withKeys v (insert (awayFrom (v .node)) key (v .keys))))
+  full : Asked limit v key content → Fresh v key → length (v .keys) ≡ limit → (front : List (List ℕ)) → v .keys ≡ front ++ lastOf (v .keys) ∷ []
+      → awayFrom (v .node) key < awayFrom (v .node) (lastOf (v .keys))
+      → Stores limit v key content (evicted (lastOf (v .keys)) (withKeys v (offer (awayFrom (v .node)) limit key (v .keys))))
+
+module _ (limit : ℕ) (v : View) (key content : List ℕ) (some : 0 < limit) (o : OfBytes v) (bytes : Bytes key) where
+  put-cases : Asked limit v key content → Fresh v key → awayFrom (v .node) key ≤ be (radiusOf limit v) → Stores limit v key content (putOf limit v key)
+  put-cases a f w = go (ltb (length (v .keys)) limit) refl
+    where
+      go : (t : Bool) → ltb (length (v .keys)) limit ≡ t → Stores limit v key content (putOf limit v key)
+      go true e =
+          let h = ltb-true (length (v .keys)) limit e in
+          subst (Stores limit v key content) (sym (put-room limit v key h)) (room a f h (omega (arith, ap be (reach-room limit v h))))
+      go false e =
+          let h = ltb-false (length (v .keys)) limit e in
+          let few = good-facts limit v (a .kept) .few in
+          let s = last-apart (v .keys) (omega arith) in
+          subst (Stores limit v key content) (sym (put-full limit v key h)) (full a f (omega arith) (s .0) (s .1) (nearer-last limit v key h some (f .apart) w))
+
+  admit-cases : Asked limit v key content → Stores limit v key content (admitOf limit v key)
+  admit-cases a = go (isHeld key v) refl
+    where
+      go : (t : Bool) → isHeld key v ≡ t → Stores limit v key content (admitOf limit v key)
+      go true h = subst (Stores limit v key content) (admit-held limit v key h) (held a (holds-member key (v .keys) h))
+      go false h = near (leb (awayFrom (v .node) key) (be (radiusOf limit v))) refl
+        where
+          fresh : Fresh v key
+          fresh = record {
+            out = λ m. true≢false (sym (member-holds key (v .keys) m) ∙ h);
+            apart = new-distance v key o (record { size = a .size; bytes = bytes }) h;
+          }
+
+          near : (t : Bool) → leb (awayFrom (v .node) key) (be (radiusOf limit v)) ≡ t → Stores limit v key content (admitOf limit v key)
+          near true w = subst (Stores limit v key content) (admit-put limit v key h w) (put-cases a fresh (leb-true (awayFrom (v .node) key) (be (radiusOf limit v)) w))
+          near false w = subst (Stores limit v key content) (admit-far limit v key h w) (beyond a fresh (leb-false (awayFrom (v .node) key) (be (radiusOf limit v)) w))
+
+  key-cases : good limit v ≡ true → length key ≡ 9 → Stores limit v key content (storeOf limit v key content)
+  key-cases g l = go (leb (selectorOf key) 1) refl
+    where
+      read : selectorOf key ≤ 1 → (t : Bool) → acceptable content ≡ t → Stores limit v key content (storeOf limit v key content)
+      read s true e =
+          subst (Stores limit v key content)
+          (store-admit limit v key content key content g (sym (key-given key l s)) (sym (ap (λ (t : Bool). cond t (Outcome.given content) (Outcome.refused 9)) e)))
+          (admit-cases (record { kept = g; size = l; selector = s; listed = e }))
+      read s false e =
+          subst (Stores limit v key content)
+          (store-content limit v key content key 9 g (sym (key-given key l s)) (sym (ap (λ (t : Bool). cond t (Outcome.given content) (Outcome.refused 9)) e)))
+          (no-content g l s e)
+
+      go : (t : Bool) → leb (selectorOf key) 1 ≡ t → Stores limit v key content (storeOf limit v key content)
+      go true e = read (leb-true (selectorOf key) 1 e) (acceptable content) refl
+      go false e =
+          let s = leb-false (selectorOf key) 1 e in
+          subst (Stores limit v key content) (store-key limit v key content 8 g (sym (key-selector key l s))) (no-selector g l s)
+
+  -- every call is one of the cases
+  pub store-cases : Stores limit v key content (storeOf limit v key content)
+  store-cases = go (good limit v) refl
+    where
+      sized : good limit v ≡ true → (t : Bool) → eqb (length key) 9 ≡ t → Stores limit v key content (storeOf limit v key content)
+      sized g true e = key-cases g (eqb-true (length key) 9 e)
+      sized g false e =
+          let l = eqb-false (length key) 9 e in
+          subst (Stores limit v key content) (store-key limit v key content 7 g (sym (key-length key l))) (no-length g l)
+
+      go : (t : Bool) → good limit v ≡ t → Stores limit v key content (storeOf limit v key content)
+      go true g = sized g (eqb (length key) 9) refl
+      go false g = subst (Stores limit v key content) (store-bad limit v key content g) (bad g)

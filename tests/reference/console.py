@@ -1,10 +1,11 @@
 """The console's answers: one line of text for each line read."""
 import messages
 import rlp
-from index import Index
+from index import Index, load
 from history import Refused, digits, distance, interested, key_id, log_distance, unhex
 
 LONGEST = 65536
+MOST_WORDS = 40
 
 
 class NoCall(Exception):
@@ -29,9 +30,39 @@ def value(word):
     return int.from_bytes(found, 'big')
 
 
+def number(word, most):
+    """A decimal number with no zero in front."""
+    if not word.isdigit() or len(word) > 5 or word != str(int(word)).encode() or int(word) > most:
+        raise NoCall
+    return int(word)
+
+
+def message_values(name, words):
+    """The values of a message in words."""
+    fields = messages.MESSAGES[messages.TYPES[name]][1]
+    values = {}
+    words = list(words)
+    for at, field in enumerate(fields):
+        if field != 'list':
+            if not words:
+                raise NoCall
+            word = words.pop(0)
+            if field == 'uint8':
+                values[at] = number(word, 255)
+            else:
+                values[at] = value(word) if field == 'uint256' else data(word)
+            if field == 'bytes4' and len(values[at]) != 4:
+                raise NoCall
+    if 'list' in fields:
+        values[fields.index('list')] = [data(word) for word in words]
+    elif words:
+        raise NoCall
+    return [values[at] for at in range(len(fields))]
+
+
 class Console:
     def __init__(self):
-        self.index = Index(0, 2**256 - 1)
+        self.index, self.room = Index(0, 2**256 - 1), LONGEST
 
     def id(self, key):
         return 'id ' + digits(key_id(data(key)))
@@ -52,6 +83,16 @@ class Console:
     def read(self, message):
         return messages.words(*messages.read(data(message)))
 
+    def write(self, *words):
+        name = words[0].decode('latin-1') if words else ''
+        if name not in messages.TYPES or len(words) + 1 > MOST_WORDS:
+            raise NoCall
+        return 'message ' + messages.written(name, message_values(name, words[1:]), self.room).hex()
+
+    def buffer(self, size):
+        self.room = number(size, LONGEST)
+        return 'ok'
+
     def fresh(self, node, cap):
         self.index = Index(value(node), value(cap))
         return 'ok'
@@ -71,6 +112,18 @@ class Console:
     def keys(self):
         return ' '.join(['keys', str(len(self.index.keys))] + [k.hex() for k in self.index.keys])
 
+    def save(self):
+        text = self.index.save()
+        if len(text) > self.room:
+            raise Refused(13)
+        return 'saved ' + text.decode().replace('\n', '|')
+
+    def load(self, text):
+        if not text:
+            raise NoCall
+        self.index = load(b'' if text == b'-' else text.replace(b'|', b'\n'))
+        return 'loaded'
+
     # each call's word, its function, and how many words follow
     CALLS = {
         b'id': (id, 1),
@@ -78,18 +131,22 @@ class Console:
         b'interested': (interested, 3),
         b'content': (content, 1),
         b'read': (read, 1),
+        b'write': (write, None),
+        b'buffer': (buffer, 1),
         b'fresh': (fresh, 2),
         b'store': (store, 2),
         b'remove': (remove, 1),
         b'radius': (radius, 0),
         b'keys': (keys, 0),
+        b'save': (save, 0),
+        b'load': (load, 1),
     }
 
     def answer(self, line):
         name, *words = line.split(b' ')
         call, count = self.CALLS.get(name, (None, None))
         try:
-            if call is None or len(words) != count or len(line) > LONGEST:
+            if call is None or count not in (None, len(words)) or len(line) > LONGEST:
                 raise NoCall
             return call(self, *words)
         except NoCall:

@@ -1,6 +1,7 @@
 """Messages to read: the least and the greatest of each, every kind of damage, and pairs of faults."""
 from history import make_key
-from messages import MOST, write
+from history import Refused
+from messages import MOST, layout, words, write
 
 ZERO, ID = bytes(4), bytes([0, 0, 0, 1])
 KEY, RECEIPTS = make_key(0, 12345678), make_key(1, 2**64 - 1)
@@ -141,3 +142,31 @@ def all_messages(stream):
     for _ in range(300):
         found.append(bytes([stream.below(10)]) + stream.take(stream.below(60)))
     return found
+
+
+def in_words(messages):
+    """Each message whose layout is right, as the words that write it, whatever its values."""
+    for message in messages:
+        try:
+            yield ('write ' + words(*layout(message))).encode()
+        except Refused:
+            pass
+
+
+def write_lines(stream):
+    """Every shape of value, good and bad, and buffers one short, exact, one longer and of no bytes."""
+    lines = list(in_words(samples(stream) + edges(stream)[:-22] + rule_breaks(stream) + records_by_hand()))
+    for message in samples(stream):
+        line = next(in_words([message]))
+        for room in (len(message) - 1, len(message), len(message) + 1, 0, 1):
+            lines += [b'buffer %d' % room, line]
+    # pairs of faults: a rule before 2, and 2 before 13
+    long = [b'%c' % i + stream.take(299) for i in range(5)]
+    lines += [b'buffer 10'] + list(in_words([write('foundnodes', 0, long), write('foundnodes', 1, long), write('store', ID, stream.take(1300)), write('store', ZERO, stream.take(1300))]))
+    lines += list(in_words([write('findnode', bytes(300)), write('findcontent', bytes(2000)), write('offer', b'\2' + bytes(8)), write('accept', KEY)]))
+    lines += [b'buffer 65536'] + [b'buffer ' + n for n in (b'', b'-', b'00', b'01', b'65537', b'99999', b'100000', b'1x', b'0x1', b'-1', b'1 ', b'1 1')]
+    lines += [b'write', b'write ', b'write ping', b'write ping 00', b'write pong ' + b'0' * 64 + b' 00', b'write findnode', b'write findnode 0', b'write nothing 00']
+    lines += [b'write foundnodes', b'write foundnodes -', b'write foundnodes 256', b'write foundnodes 01', b'write foundnodes 1 0', b'write foundnodes 1  00', b'write foundnodes 1 ' + b' '.join([b'00'] * 40)]
+    lines += [b'write foundnodes 1 ' + b' '.join(b'%02x' % i for i in range(n)) for n in (32, 33, 36, 37, 38)]
+    lines += [b'write foundcontent 00000000', b'write foundcontent 000000 -', b'write foundcontent 0000000000 - 00', b'write foundcontent 00000000 - -', b'write store 00000001', b'write store 00000000 - 00', b'write store - c0']
+    return lines

@@ -108,6 +108,24 @@ def rules(name, values):
         key(values[0])
 
 
+def layout(data):
+    """The name and values of a container whose layout is right, whatever the values."""
+    name, fields = MESSAGES[data[0]]
+    values = read_container(fields, data[1:])
+    return name, [read_list(v) if f == 'list' else v for f, v in zip(fields, values)]
+
+
+def written(name, values, room):
+    """What writing gives: the rules first, then 2, then 13 for a buffer that is too short."""
+    rules(name, values)
+    data = write(name, *values)
+    if len(data) > MOST:
+        raise Refused(2)
+    if len(data) > room:
+        raise Refused(13)
+    return data
+
+
 def read(data):
     """The name and values of a message, or the lowest number that applies."""
     if not data:
@@ -116,9 +134,7 @@ def read(data):
         raise Refused(2)
     if data[0] not in MESSAGES:
         raise Refused(3)
-    name, fields = MESSAGES[data[0]]
-    values = read_container(fields, data[1:])
-    values = [read_list(v) if f == 'list' else v for f, v in zip(fields, values)]
+    name, values = layout(data)
     rules(name, values)
     return name, values
 
@@ -134,5 +150,5 @@ def words(name, values):
 
     fields = MESSAGES[TYPES[name]][1]
     plain = [word(f, v) for f, v in zip(fields, values) if f != 'list']
-    records = [r.hex() for f, v in zip(fields, values) if f == 'list' for r in v]
+    records = [r.hex() or '-' for f, v in zip(fields, values) if f == 'list' for r in v]
     return ' '.join([name] + plain + records)

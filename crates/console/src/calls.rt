@@ -11,55 +11,96 @@ enum Call {
     Interested,
     Content,
     Read,
+    Write,
+    Buffer,
     Fresh,
     Store,
     Remove,
     Radius,
     Keys,
+    Save,
+    Load,
     None,
 }
 
-// What the console holds from line to line, and the length of the answer to the last one.
+// What the console holds from line to line: the index, and the length of the buffer that is lent to calls that write.
 pub struct State {
     pub index: KeyIndex,
+    pub room: usize,
+}
+
+// The state to go on with, and the length of the answer.
+pub struct Answered {
+    pub state: State,
     pub len: usize,
 }
 
-// At first, a fresh index of node id zero and a cap of all ones.
+// At first, a fresh index of node id zero and a cap of all ones, and the whole buffer.
 pub fn start() -> State {
     State {
         index: key_index::fresh([0u8; 32], [255u8; 32]),
-        len: 0,
+        room: 65536,
     }
 }
 
 // Does what the line asks, and puts the answer into out.
 pub fn answer(
-    index: KeyIndex,
+    state: State,
     line: &[u8],
     data: &mut [u8],
     spare: &mut [u8],
     out: &mut [u8],
-) -> State {
+) -> Answered {
     let words = words::split(line);
     let call = call_of(words::word(line, words, 0));
+    let index = state.index;
     match call {
-        Call::Fresh => held(console_index::fresh(index, line, words, out)),
-        Call::Store => held(console_index::store(index, line, words, data, spare, out)),
-        Call::Remove => held(console_index::remove(index, line, words, data, out)),
+        Call::Fresh => held(state, console_index::fresh(index, line, words, out)),
+        Call::Store => held(
+            state,
+            console_index::store(index, line, words, data, spare, out),
+        ),
+        Call::Remove => held(state, console_index::remove(index, line, words, data, out)),
+        Call::Load => held(state, console_index::load(index, line, words, data, out)),
+        Call::Buffer => buffer(state, line, words, out),
+        Call::Save => {
+            let len = console_index::save(index, words, state.room, spare, out);
+            Answered { state, len }
+        }
+        Call::Write => {
+            let len = console_messages::write(line, words, state.room, data, spare, out);
+            Answered { state, len }
+        }
         _ => {
             let len = asked(call, index, line, words, data, out);
-            State { index, len }
+            Answered { state, len }
         }
     }
 }
 
-fn held(reply: console_index::Reply) -> State {
+fn held(state: State, reply: console_index::Reply) -> Answered {
     let index = reply.index;
-    State {
+    let next = State {
         index,
+        room: state.room,
+    };
+    Answered {
+        state: next,
         len: reply.len,
     }
+}
+
+// buffer N
+fn buffer(state: State, line: &[u8], words: Words, out: &mut [u8]) -> Answered {
+    let room = words::number(words::word(line, words, 1));
+    if words.count != 2 || !room.good || 65536 < room.value {
+        let len = answer::error(out);
+        return Answered { state, len };
+    }
+    let mut next = state;
+    next.room = room.value;
+    let len = answer::text(out, 0, b"ok\n");
+    Answered { state: next, len }
 }
 
 // The calls that change nothing.
@@ -100,6 +141,12 @@ fn call_of(name: &[u8]) -> Call {
     if check::same(name, b"read") {
         return Call::Read;
     }
+    if check::same(name, b"write") {
+        return Call::Write;
+    }
+    if check::same(name, b"buffer") {
+        return Call::Buffer;
+    }
     index_call(name)
 }
 
@@ -118,6 +165,12 @@ fn index_call(name: &[u8]) -> Call {
     }
     if check::same(name, b"keys") {
         return Call::Keys;
+    }
+    if check::same(name, b"save") {
+        return Call::Save;
+    }
+    if check::same(name, b"load") {
+        return Call::Load;
     }
     Call::None
 }

@@ -5,10 +5,10 @@ ghost use lib.ListN.{length};
 mod calls;
 mod keys;
 
+use calls::Answered;
 use calls::State;
 use console_text::answer;
 use console_text::words;
-use key_index::KeyIndex;
 use libc::STDIN_FILENO;
 use libc::STDOUT_FILENO;
 
@@ -27,8 +27,14 @@ struct Taken {
 
 // What is kept from block to block.
 struct Kept {
-    index: KeyIndex,
+    state: State,
     held: Held,
+}
+
+// What a read left, and whether there may be more.
+struct Turn {
+    kept: Kept,
+    more: bool,
 }
 
 fn main() {
@@ -40,8 +46,8 @@ fn main() {
     let kept = read_lines(&mut input, &mut line, &mut data, &mut spare, &mut out);
     let held = kept.held;
     if held.long || held.len > 0 {
-        let index = kept.index;
-        answer_line(index, held, &line, &mut data, &mut spare, &mut out);
+        let state = kept.state;
+        answer_line(state, held, &line, &mut data, &mut spare, &mut out);
     }
 }
 
@@ -54,23 +60,45 @@ fn read_lines(
     spare: &mut [u8],
     out: &mut [u8],
 ) -> Kept {
-    let start = calls::start();
-    let index = start.index;
-    let mut kept = Kept {
-        index,
-        held: nothing(),
+    let state = calls::start();
+    let mut turn = Turn {
+        kept: Kept {
+            state,
+            held: nothing(),
+        },
+        more: true,
     };
     let mut turns = u64::MAX;
     while turns > 0 {
-        let got = libc::read(STDIN_FILENO, input);
-        if got <= 0 {
-            break;
+        let kept = turn.kept;
+        turn = read_some(kept, input, line, data, spare, out);
+        if !turn.more {
+            return turn.kept;
         }
-        let n = io::count(got, input);
-        kept = read_block(kept, words::front(input, n), line, data, spare, out);
         turns -= 1;
     }
-    kept
+    turn.kept
+}
+
+// Reads once, and answers the lines that end in what came.
+fn read_some(
+    kept: Kept,
+    input: &mut [u8],
+    line: &mut [u8],
+    data: &mut [u8],
+    spare: &mut [u8],
+    out: &mut [u8],
+) -> Turn {
+    let got = libc::read(STDIN_FILENO, input);
+    if got <= 0 {
+        return Turn { kept, more: false };
+    }
+    let n = io::count(got, input);
+    let next = read_block(kept, words::front(input, n), line, data, spare, out);
+    Turn {
+        kept: next,
+        more: true,
+    }
 }
 
 fn nothing() -> Held {
@@ -109,16 +137,16 @@ fn answer_taken(
     spare: &mut [u8],
     out: &mut [u8],
 ) -> Kept {
-    let index = kept.index;
+    let state = kept.state;
     let held = taken.held;
     if taken.ended {
-        let next = answer_line(index, held, line, data, spare, out);
+        let next = answer_line(state, held, line, data, spare, out);
         return Kept {
-            index: next,
+            state: next,
             held: nothing(),
         };
     }
-    Kept { index, held }
+    Kept { state, held }
 }
 
 // Reads up to a line feed or the block's end.
@@ -160,33 +188,33 @@ fn keep(held: Held, c: u8, line: &mut [u8]) -> Held {
     Held { len, long: true }
 }
 
-// Answers a line, and hands back the index to go on with.
+// Answers a line, and hands back the state to go on with.
 fn answer_line(
-    index: KeyIndex,
-    held: Held,
-    line: &[u8],
-    data: &mut [u8],
-    spare: &mut [u8],
-    out: &mut [u8],
-) -> KeyIndex {
-    let state = answer_to(index, held, line, data, spare, out);
-    io::write_all(STDOUT_FILENO, words::front(out, state.len));
-    state.index
-}
-
-// Puts the answer to a line into out: `error` for one that is too long, else what it asks.
-fn answer_to(
-    index: KeyIndex,
+    state: State,
     held: Held,
     line: &[u8],
     data: &mut [u8],
     spare: &mut [u8],
     out: &mut [u8],
 ) -> State {
+    let answered = answer_to(state, held, line, data, spare, out);
+    io::write_all(STDOUT_FILENO, words::front(out, answered.len));
+    answered.state
+}
+
+// Puts the answer to a line into out: `error` for one that is too long, else what it asks.
+fn answer_to(
+    state: State,
+    held: Held,
+    line: &[u8],
+    data: &mut [u8],
+    spare: &mut [u8],
+    out: &mut [u8],
+) -> Answered {
     if held.long {
         let len = answer::error(out);
-        return State { index, len };
+        return Answered { state, len };
     }
     let len = held.len;
-    calls::answer(index, words::front(line, len), data, spare, out)
+    calls::answer(state, words::front(line, len), data, spare, out)
 }

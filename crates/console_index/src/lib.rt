@@ -8,6 +8,7 @@ use hex::Decoded;
 use key_index::KeyIndex;
 use key_store::Stored;
 use refusal::Checked;
+use refusal::Wrote;
 
 // The index to go on with, and the length of the answer.
 pub struct Reply {
@@ -152,4 +153,46 @@ fn key_word(bytes: &[u8], i: usize, out: &mut [u8], from: usize) -> usize {
     let at = answer::text(out, from, b" ");
     let key = key_index::key_at(bytes, i);
     answer::digits(out, at, &key)
+}
+
+// save
+pub fn save(index: KeyIndex, words: Words, room: usize, spare: &mut [u8], out: &mut [u8]) -> usize {
+    if words.count != 1 {
+        return answer::error(out);
+    }
+    let wrote = save_to(index, room, spare);
+    match wrote {
+        Wrote::Bytes(n) => {
+            let at = answer::text(out, 0, b"saved ");
+            let last = answer::bars(out, at, words::front(spare, n));
+            answer::end(out, last)
+        }
+        Wrote::Refused(why) => answer::refused(out, why),
+    }
+}
+
+// Saves into the first `room` bytes of the buffer.
+fn save_to(index: KeyIndex, room: usize, spare: &mut [u8]) -> Wrote {
+    if room < spare.len() {
+        snapshot::save(index, &mut spare[..room])
+    } else {
+        snapshot::save(index, spare)
+    }
+}
+
+// load TEXT
+pub fn load(index: KeyIndex, line: &[u8], words: Words, data: &mut [u8], out: &mut [u8]) -> Reply {
+    if words.count != 2 {
+        return no_call(index, out);
+    }
+    let text = words::word(line, words, 1);
+    if text.len() == 0 {
+        return no_call(index, out);
+    }
+    let n = words::unbarred(text, data);
+    let done = snapshot::reload(index, words::front(data, n));
+    let next = done.index;
+    let checked = done.checked;
+    let len = said(checked, b"loaded\n", out);
+    Reply { index: next, len }
 }

@@ -1,6 +1,8 @@
 // The console's calls on content and messages.
 //
 // A part of the program `console`: its functions are proved to be safe and to end, and what they answer is tested with the program.
+mod writing;
+
 use console_text::answer;
 use console_text::words;
 use console_text::words::Words;
@@ -8,6 +10,7 @@ use hex::Decoded;
 use message::Kind;
 use message::Reading;
 use refusal::Checked;
+pub use writing::write;
 
 // content BYTES
 pub fn content(line: &[u8], words: Words, data: &mut [u8], out: &mut [u8]) -> usize {

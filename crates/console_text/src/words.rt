@@ -1,4 +1,5 @@
 // The words of a line, which one space separates.
+ghost use Prim.Native.Nat.{_<_};
 use hex::Decoded;
 
 // How many words a line may have.
@@ -116,4 +117,64 @@ pub fn value(word: &[u8]) -> Bytes32 {
         Decoded::NotHex => Bytes32 { good: false, bytes },
         Decoded::NoRoom => Bytes32 { good: false, bytes },
     }
+}
+
+// Four bytes, if the word is so many.
+pub struct Bytes4 {
+    pub good: bool,
+    pub bytes: [u8; 4],
+}
+
+pub fn four(word: &[u8]) -> Bytes4 {
+    let mut bytes = [0u8; 4];
+    let decoded = hex::decode(word, &mut bytes);
+    match decoded {
+        Decoded::Bytes(n) => Bytes4 {
+            good: n == 4,
+            bytes,
+        },
+        Decoded::NotHex => Bytes4 { good: false, bytes },
+        Decoded::NoRoom => Bytes4 { good: false, bytes },
+    }
+}
+
+// A number of at most five decimal digits, with no zero in front.
+pub struct Decimal {
+    pub good: bool,
+    pub value: usize,
+}
+
+pub fn number(word: &[u8]) -> Decimal {
+    let no = Decimal {
+        good: false,
+        value: 0,
+    };
+    if word.len() == 0 || 5 < word.len() {
+        return no;
+    }
+    if word[0] == b'0' {
+        if 1 < word.len() {
+            return no;
+        }
+    }
+    let mut value = 0usize;
+    for i in 0..word.len() {
+        let c = word[i];
+        if c < b'0' || b'9' < c {
+            return no;
+        }
+        value = value % 100000 * 10 + wide(c - b'0');
+    }
+    Decimal { good: true, value }
+}
+
+fn wide(x: u8) -> usize
+    ensures { λ r. ⌜ r < 256 ⌝ }
+{
+    x as usize
+}
+
+// The first n places, or none where there are fewer.
+pub fn places(s: &[usize], n: usize) -> &[usize] {
+    if n <= s.len() { &s[..n] } else { &s[..0] }
 }

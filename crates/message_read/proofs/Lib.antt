@@ -1,5 +1,4 @@
 pub mod Answers
-pub mod Flags
 pub mod Lists
 pub mod Containers
 pub mod Shapes

@@ -2,10 +2,9 @@
 ghost use Prim.Native.Nat.{_+_, _≤_, _<_};
 ghost use mathlib.Core.Path.{_≡_};
 ghost use mathlib.Core.List.{reverse};
-ghost use lib.Dec.{eqb};
 ghost use lib.ListN.{length, take, drop};
 ghost use Rattle.message.specs.Records.{offsetOf};
-ghost use Rattle.message.specs.Rules.{one, allDifferent};
+ghost use Rattle.message.specs.Rules.{one};
 ghost use Rattle.message.specs.Decode.{twoOffsets, layoutOf, ruledOr4, decode};
 ghost use Rattle.message.specs.Reading.{ReadTo};
 ghost use Rattle.message_read.specs.Shapes.{blankOf, partOf, placesOf, typeOf, RadiusKind, KeyKind, RestAt, thingsOf, whyOf};
@@ -66,7 +65,7 @@ fn distances(message: &[u8]) -> Reading
     if 256 < len {
         return refused(Refusal::TooManyItems);
     }
-    if !all_different(message, 5) {
+    if !message_rules::all_different(&message[5..]) {
         return refused(Refusal::ItemRule);
     }
     part(Kind::FindNode, 5, len)
@@ -191,22 +190,6 @@ fn connection_id(message: &[u8]) -> [u8; 4]
     ensures { λ r. ⌜ r ≡ take 4 (drop 1 (now (message .entry))) ⌝ }
 {
     [message[1], message[2], message[3], message[4]]
-}
-
-// No two bytes from a place on are equal: one pass, with a flag for each byte that was seen.
-fn all_different(message: &[u8], start: usize) -> bool
-    requires { ⌜ start ≤ length (now message) ⌝ }
-    ensures { λ r. ⌜ r ≡ allDifferent eqb (drop start (now (message .entry))) ⌝ }
-{
-    let mut seen = [0u8; 256];
-    for i in start..message.len() {
-        let byte = wide(message[i]);
-        if seen[byte] != 0 {
-            return false;
-        }
-        seen[byte] = 1;
-    }
-    true
 }
 
 // The bytes in the other order.

@@ -11,13 +11,16 @@ use borrow.Author.Tests.{le-leb, lt-leb, not-true, not-false}
 use Rattle.message.specs.Records.{offsetsOf, ordered, between, recordsOf}
 use Rattle.message.specs.Rules.{recordSizes, allDifferent, goodRecords}
 use Rattle.message.specs.Reading.{partAt, recordsAt}
+use Rattle.message_rules.specs.Good.{goodAt}
+use Rattle.message_rules.proofs.Places.{part-length}
+use Rattle.message_rules.proofs.Good.{good-inside}
 use Rattle.message_records.specs.Found.{recordsIn, verdictOf, RecordsIn}
 use Rattle.message_records.specs.Places.{nothing, laidCount, PlacesOf}
 use Rattle.message_records.specs.declared.Verdict.{Verdict}
 use Rattle.message_records.specs.declared.Verdict.the-variants.{Broken, TooMany, Bad, Good}
 use Rattle.message_records.specs.declared.Records.{Records}
 use Rattle.message_records.proofs.Offsets.{offsets-length}
-use Rattle.message_records.proofs.Filled.{part-length, between-length}
+use Rattle.message_records.proofs.Filled.{between-length}
 use Rattle.message_records.proofs.Layouts.{Read, counted, uncounted}
 
 module _ (s : List ℕ) (base end : ℕ) where
@@ -98,9 +101,9 @@ module _ (s : List ℕ) (base end : ℕ) where
         judged = ap verdictOf found-in ∙ rw (many, le-leb count 32 few)
 
         module _ (r : Records) (p : PlacesOf s base (end - base) count r) (t : Bool)
-            (is : t ≡ goodRecords (recordsAt s (r .starts) (r .lens) count)) where
+            (is : t ≡ goodAt s (r .starts) (r .lens) count) where
           tested : goodRecords found ≡ t
-          tested = sym (is ∙ ap goodRecords (p .records))
+          tested = sym (is ∙ good-inside s (r .starts) (r .lens) count (p .places) ∙ ap goodRecords (p .records))
 
           -- a record breaks a rule
           pub bad : not t ≡ true → RecordsIn s base end (nothing Bad)

@@ -2,16 +2,16 @@
 -- compared element by element. Assumes nothing.
 use Prim.Native.Nat.{ℕ, zero, suc, _+_, _-_, _<_, _≤_}
 use native.Mathlib.Numerals.{add-one}
-use native.Mathlib.Decide.{ℕ-discrete}
 use native.Mathlib.Omega.{arith}
 use mathlib.Core.Path.{_≡_, refl, sym, ap, ap₂, _∙_}
 use mathlib.Core.Bool.{true}
-use mathlib.Core.List.{List, [], _∷_, _++_}
-use lib.ListN.{length, getD, take, drop, set, replicate, length-append, length-take, length-drop, length-set, List·getD-append}
-use lib.Seq.{drop-drop, drop-set-lt, getD-set-same, getD-set-other, getD-at, ext-getD, take-all, take-take}
+use mathlib.Core.List.{List, [], _∷_}
+use lib.ListN.{length, getD, take, drop, set, replicate, length-drop, length-set}
+use lib.Seq.{drop-drop, drop-set-lt, getD-set-same, getD-set-other, ext-getD, take-all, take-take}
 use borrow.Author.Count.{below-none, below-more}
 use Rattle.message.specs.Records.{offsetsOf, ordered, between}
 use Rattle.message.specs.Reading.{partAt, recordsAt}
+use Rattle.message_rules.proofs.Places.{part-length, records-length, record-at}
 use Rattle.message_records.specs.Places.{offsetAt, PlacesOf}
 use Rattle.message_records.specs.declared.Verdict.the-variants.{Good}
 use Rattle.message_records.proofs.Offsets.{part-drop, offsets-length, offsets-rise}
@@ -39,37 +39,6 @@ filled-more f i a h w v is =
   where
     more : 32 - i ≡ suc (32 - (i + 1))
     more = omega arith
-
--- as many records as places
-pub records-length : (s starts lens : List ℕ) (n : ℕ) → length (recordsAt s starts lens n) ≡ n
-unfolding recordsAt
-records-length s starts lens zero = refl
-records-length s starts lens (suc n) =
-    let here = partAt s (getD starts n 0) (getD lens n 0) in
-    omega (arith, length-append (recordsAt s starts lens n) (here ∷ []), records-length s starts lens n)
-
--- each record is the part at its place
-pub record-at : (s starts lens : List ℕ) (n k : ℕ) → k < n
-    → getD (recordsAt s starts lens n) k [] ≡ partAt s (getD starts k 0) (getD lens k 0)
-unfolding recordsAt
-record-at s starts lens zero k h = absurd (omega arith)
-record-at s starts lens (suc n) k h = go (record-at s starts lens n k) (ℕ-discrete k n)
-  where
-    front : List (List ℕ)
-    front = recordsAt s starts lens n
-
-    many : length front ≡ n
-    many = records-length s starts lens n
-
-    last : List ℕ
-    last = partAt s (getD starts n 0) (getD lens n 0)
-
-    go : (k < n → getD front k [] ≡ partAt s (getD starts k 0) (getD lens k 0)) → Dec (k ≡ n)
-        → getD (front ++ (last ∷ [])) k [] ≡ partAt s (getD starts k 0) (getD lens k 0)
-    go before (yes e) = rw e (getD-at front last [] [] n many)
-    go before (no ne) =
-        let less : k < n = omega arith in
-        List·getD-append front (last ∷ []) [] k (omega (arith, many)) ∙ before less
 
 -- as many records as offsets
 pub between-length : (l os : List ℕ) → length (between l os) ≡ length os
@@ -105,10 +74,6 @@ place-more s base size count i h o here q next starts lens fs fl = (
   filled-more (startOf s base size count) i starts h fs (base + o) (ap (λ (x : ℕ). base + x) here),
   filled-more (lenOf s base size count) i lens h fl (q - o) (ap₂ (λ (x y : ℕ). x - y) next here),
 )
-
--- a part that lies in a list has its length
-pub part-length : (s : List ℕ) (base size : ℕ) → base + size ≤ length s → length (partAt s base size) ≡ size
-part-length s base size fits = simp (length-take, length-drop) (omega arith)
 
 -- a record between the offsets is the part at its place
 between-part : (s : List ℕ) (base size count k : ℕ) → base + size ≤ length s

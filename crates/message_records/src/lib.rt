@@ -1,13 +1,12 @@
 // The list of records in a message, for FoundNodes and FoundContent: its layout, the number of records, and the rules on them.
 ghost use Prim.Native.Nat.{_+_, _*_, _≤_, _<_};
 ghost use mathlib.Core.Path.{_≡_};
-ghost use mathlib.Core.Bool.{true, not};
-ghost use lib.ListN.{length, take, drop};
+ghost use mathlib.Core.Bool.{true};
+ghost use lib.ListN.{length, drop};
 ghost use Rattle.message.specs.Records.{offsetOf, offsetsOf, ordered};
-ghost use Rattle.message.specs.Rules.{allDifferent, sameBytes, goodRecords};
-ghost use Rattle.message.specs.Reading.{partAt, recordsAt};
+ghost use Rattle.message.specs.Reading.{partAt};
 ghost use Rattle.message_records.specs.Found.{RecordsIn};
-ghost use Rattle.message_records.specs.Places.{nothing, laidCount, offsetAt, sizesGood, Places, PlacesOf};
+ghost use Rattle.message_records.specs.Places.{nothing, laidCount, offsetAt, PlacesOf};
 
 // What the list comes to.
 pub enum Verdict {
@@ -52,7 +51,7 @@ pub fn read_records(message: &[u8], base: usize, end: usize) -> Records
     let found = places(message, base, size, count);
     let starts = found.starts;
     let lens = found.lens;
-    if !rules_kept(message, &starts, &lens, count) {
+    if !message_rules::good_records(message, starts, lens, count) {
         return none(Verdict::Bad);
     }
     found
@@ -161,64 +160,4 @@ fn places(s: &[u8], base: usize, size: usize, count: usize) -> Records
         starts,
         lens,
     }
-}
-
-// Every record has 1 to 300 bytes, and no two are equal byte for byte.
-fn rules_kept(s: &[u8], starts: &[usize; 32], lens: &[usize; 32], count: usize) -> bool
-    requires { ⌜ Places (now s) (now starts) (now lens) count ⌝ }
-    ensures { λ r. ⌜ r ≡ goodRecords (recordsAt (now (s .entry)) (now (starts .entry)) (now (lens .entry)) count) ⌝ }
-{
-    if !sizes(lens, count) {
-        return false;
-    }
-    !some_equal(s, starts, lens, count)
-}
-
-// Every record has 1 to 300 bytes.
-fn sizes(lens: &[usize; 32], count: usize) -> bool
-    requires { ⌜ (length (now lens) ≡ 32) × (count ≤ 32) ⌝ }
-    ensures { λ r. ⌜ r ≡ sizesGood (take count (now (lens .entry))) ⌝ }
-{
-    for i in 0..count {
-        if lens[i] < 1 {
-            return false;
-        }
-        if 300 < lens[i] {
-            return false;
-        }
-    }
-    true
-}
-
-// Two records are equal byte for byte: each is compared with those after it, and the first equal pair ends the search.
-fn some_equal(s: &[u8], starts: &[usize; 32], lens: &[usize; 32], count: usize) -> bool
-    requires { ⌜ Places (now s) (now starts) (now lens) count ⌝ }
-    ensures { λ r. ⌜ r ≡ not (allDifferent sameBytes (recordsAt (now (s .entry)) (now (starts .entry)) (now (lens .entry)) count)) ⌝ }
-{
-    let mut found = false;
-    'pairs: for i in 0..count {
-        for j in i + 1..count {
-            if same(s, starts[i], lens[i], starts[j], lens[j]) {
-                found = true;
-                break 'pairs;
-            }
-        }
-    }
-    found
-}
-
-// Two parts of the message are equal byte for byte.
-fn same(s: &[u8], a: usize, n: usize, b: usize, m: usize) -> bool
-    requires { ⌜ (a + n ≤ length (now s)) × (b + m ≤ length (now s)) ⌝ }
-    ensures { λ r. ⌜ r ≡ sameBytes (partAt (now (s .entry)) a n) (partAt (now (s .entry)) b m) ⌝ }
-{
-    if n != m {
-        return false;
-    }
-    for k in 0..n {
-        if s[a + k] != s[b + k] {
-            return false;
-        }
-    }
-    true
 }

@@ -1,5 +1,4 @@
 -- `console::read_lines` is safe and ends: the turns fall, and the lent buffers keep their lengths. Assumes nothing.
-use Prim.Native.Nat.{_-_, _≤_}
 use mathlib.Core.Path.{_≡_}
 use borrow.Author.Needs.{needs}
 use lib.ListN.{length}
@@ -7,10 +6,10 @@ use Rattle.console.proofs.read_lines.Statement.{statement}
 use Rattle.console.proofs.read_lines.Tie as tie
 
 abbrev Inv-loop : tie.InvT-loop
-Inv-loop input₀ line₀ data₀ spare₀ out₀ kept₀ turns₀ input line «data» spare out kept turns = (length input ≡ length input₀) × (length line ≡ length line₀) × (length «data» ≡ length data₀) × (length spare ≡ length spare₀) × (length out ≡ length out₀)
+Inv-loop input₀ line₀ data₀ spare₀ out₀ turn₀ turns₀ input line «data» spare out turn turns = (length input ≡ length input₀) × (length line ≡ length line₀) × (length «data» ≡ length data₀) × (length spare ≡ length spare₀) × (length out ≡ length out₀)
 
 abbrev μ-loop : tie.MeasureT-loop
-μ-loop input₀ line₀ data₀ spare₀ out₀ kept₀ turns₀ input line «data» spare out kept turns = turns
+μ-loop input₀ line₀ data₀ spare₀ out₀ turn₀ turns₀ input line «data» spare out turn turns = turns
 
 start-requires : tie.Need-start-requires Inv-loop μ-loop
 start-requires c κs = search needs
@@ -21,26 +20,8 @@ nothing-requires c κs = search needs
 loop-holds : tie.Need-loop-holds Inv-loop μ-loop
 loop-holds c = search needs
 
-read-requires : tie.Need-read-requires Inv-loop μ-loop
-read-requires c κs = search needs
-
-count-requires : tie.Need-count-requires Inv-loop μ-loop
-count-requires c κs = search needs
-
-front-requires : tie.Need-front-requires Inv-loop μ-loop
-front-requires c κs = search needs
-
-read-block-requires : tie.Need-read-block-requires Inv-loop μ-loop
-read-block-requires c κs = search needs
-
-sub-turns : tie.Need-sub-turns Inv-loop μ-loop
-sub-turns c = search needs
-
-loop-less : tie.Need-loop-less Inv-loop μ-loop
-loop-less c = search needs
-
-loop-again : tie.Need-loop-again Inv-loop μ-loop
-loop-again c = search needs
+read-some-requires : tie.Need-read-some-requires Inv-loop μ-loop
+read-some-requires c κs = search needs
 
 same-length : tie.Need-same-length Inv-loop μ-loop
 same-length c = search needs
@@ -59,6 +40,15 @@ same-length-5 c = search needs
 
 returns : tie.Need-returns Inv-loop μ-loop
 returns c = search needs
+
+sub-turns : tie.Need-sub-turns Inv-loop μ-loop
+sub-turns c = search needs
+
+loop-less : tie.Need-loop-less Inv-loop μ-loop
+loop-less c = search needs
+
+loop-again : tie.Need-loop-again Inv-loop μ-loop
+loop-again c = search needs
 
 same-length-6 : tie.Need-same-length-6 Inv-loop μ-loop
 same-length-6 c = search needs
@@ -87,19 +77,16 @@ read-lines-spec =
     start-requires
     nothing-requires
     loop-holds
-    read-requires
-    count-requires
-    front-requires
-    read-block-requires
-    sub-turns
-    loop-less
-    loop-again
+    read-some-requires
     same-length
     same-length-2
     same-length-3
     same-length-4
     same-length-5
     returns
+    sub-turns
+    loop-less
+    loop-again
     same-length-6
     same-length-7
     same-length-8

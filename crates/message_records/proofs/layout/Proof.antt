@@ -6,7 +6,7 @@ use borrow.Author.Needs.{needs}
 use Rattle.message.specs.Records.{offsetOf}
 use Rattle.message.specs.Reading.{partAt}
 use Rattle.message_records.proofs.Offsets.{offset-first}
-use Rattle.message_records.proofs.Filled.{part-length}
+use Rattle.message_rules.proofs.Places.{part-length}
 use Rattle.message_records.proofs.Layouts.{too-short, too-low, uneven, too-high, laid-in-order, out-of-order}
 use Rattle.message_records.proofs.layout.Statement.{statement}
 use Rattle.message_records.proofs.layout.Tie as tie

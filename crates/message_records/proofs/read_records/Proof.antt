@@ -67,30 +67,30 @@ places-requires c κs =
     let fits = room _ _ _ low high _ (read got) in
     (search needs, in-order _ _ _ low high _ (read got))
 
-rules-kept-requires : tie.Need-rules-kept-requires
-rules-kept-requires c κs = search needs
+good-records-requires : tie.Need-good-records-requires
+good-records-requires c κs = search needs
 
 none-requires-6 : tie.Need-none-requires-6
 none-requires-6 c κs = search needs
 
 returns-6 : tie.Need-returns-6
 returns-6 c =
-    let at = c .before .before .before .before .before .before .before in
+    let at = c .before .before .before .before .before in
     let got = at .before .before in
     let low = got .before .before .before .before .if1 .left in
     let high = got .before .before .before .if2 .left in
     rw (c .none6 .ensures)
     (bad _ _ _ low high _ (read got) (at .before .if5 .left) _ (at .places .ensures)
-    _ (c .before .before .rules-kept .ensures) (c .before .if6 .taken))
+    _ (c .before .before .good-records .ensures) (c .before .if6 .taken))
 
 returns-7 : tie.Need-returns-7
 returns-7 c =
-    let at = c .before .before .before .before .before .before in
+    let at = c .before .before .before .before in
     let got = at .before .before in
     let low = got .before .before .before .before .if1 .left in
     let high = got .before .before .before .if2 .left in
     good _ _ _ low high _ (read got) (at .before .if5 .left) _ (at .places .ensures)
-    _ (c .before .rules-kept .ensures) (c .if6 .left)
+    _ (c .before .good-records .ensures) (c .if6 .left)
 
 pub read-records-spec : {M : Type 1} → statement M
 read-records-spec =
@@ -108,7 +108,7 @@ read-records-spec =
     none-requires-5
     returns-5
     places-requires
-    rules-kept-requires
+    good-records-requires
     none-requires-6
     returns-6
     returns-7)

@@ -1,0 +1,6 @@
+pub mod Terms
+pub mod Steps
+pub mod Plainly
+pub mod Demand3
+pub mod Answered
+pub mod Examples

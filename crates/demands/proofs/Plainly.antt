@@ -1,0 +1,61 @@
+-- Demand 3 in the box's own terms, from demand 3: a key at the distance of a held one is that one. Assumes nothing.
+use Prim.Native.Nat.{ℕ, _≤_}
+use mathlib.Core.Path.{sym, subst}
+use mathlib.Core.Logic.{_↔_, ⊎-elim}
+use mathlib.Core.List.{List, [], _∷_, Memᴰ·of-map, Memᴰ·cast}
+use Rattle.nearest.specs.Sorted.{_among_, distances}
+use Rattle.runs.specs.Views.{View, Call, store, remove, reload, Answer, Good}
+use Rattle.runs.specs.Runs.{Part, Accepted, Presented, Candidate}
+use Rattle.runs.specs.Demand3.{Demand3}
+use Rattle.runs.proofs.Runs.{good-run, good-part}
+use Rattle.runs.proofs.Equal.{same-keys-equal, same-set-iff, held-iff}
+use Rattle.key_index.specs.Good.{awayFrom}
+use Rattle.demands.specs.Box.{Owner, ValidOwner, ValidKey}
+use Rattle.demands.specs.Setting.{same-distance, key-is, box}
+use Rattle.demands.specs.Step.{step}
+use Rattle.demands.specs.Plainly.{Plainly}
+use Rattle.demands.proofs.Terms.{equal, good-passes, radius-is, gives-iff}
+use Rattle.demands.proofs.Steps.{index}
+
+-- what is presented is a key
+presented-valid : (o : Owner) (cs : List (Call box)) (k : List ℕ) → Presented box o cs k → ValidKey k
+presented-valid o [] k f = absurd f
+presented-valid o (store raw content ∷ cs) k f = ⊎-elim (λ p. key-is raw k (p .0 .presented) .1) (presented-valid o cs k) f
+presented-valid o (remove raw ∷ cs) k f = ⊎-elim absurd (presented-valid o cs k) f
+presented-valid o (reload text ∷ cs) k f = ⊎-elim absurd (presented-valid o cs k) f
+
+module _ (o : Owner) (valid : ValidOwner o) (calls : List (Call box)) where
+  module _ {v w : View box} {cs : List (Call box)} {told : List (Answer box)} (part : Part box step o calls v cs w told) where
+    good-start : Good box v
+    good-start = good-part box index valid part
+
+    good-end : Good box w
+    good-end = subst (λ (x : View box). Good box x) (sym (part .ends)) (good-run box index v cs good-start)
+
+    candidate-valid : (k : List ℕ) → Candidate box v cs k → ValidKey k
+    candidate-valid k c = ⊎-elim (good-start .validKeys k) (presented-valid (v .owner) cs k) c
+
+    -- a candidate at the distance of a key held at the end is held
+    held-by-distance : (k : List ℕ) → Candidate box v cs k → awayFrom (v .owner .node) k among distances (awayFrom (v .owner .node)) (w .keys)
+        → k among w .keys
+    held-by-distance k c m =
+        let t = Memᴰ·of-map (awayFrom (v .owner .node)) (w .keys) m in
+        Memᴰ·cast
+        (sym (same-distance (v .owner) (t .0) k (good-start .validOwner) (good-end .validKeys (t .0) (t .1)) (candidate-valid k c) .1 (t .2)))
+        (t .1)
+
+  pub plainly : Demand3 box step o calls → Plainly o calls
+  plainly d = record {
+    passes = λ part. good-passes _ (good-start part);
+    all = λ part s few k c. held-by-distance part k c (d .nearest part s .all few k c);
+    others = λ part s k c out j m. d .nearest part s .others k c (λ i. out (held-by-distance part k c i)) j m;
+    alike = λ {v = v} {w = w} {w′ = w′} {cs = cs} {cs′ = cs′} o′ part s part′ s′ same.
+        same-keys-equal box (v .owner) equal (w .keys) (w′ .keys)
+        (d .alike part s index o′ part′ s′
+        (same-set-iff box (v .owner) equal (Presented box (v .owner) cs) (Presented box (v .owner) cs′) same));
+    accepts = λ {v = v} {w = w} {a = a} {k = k} point ad new.
+        subst (λ (r : ℕ). (Accepted box a × (k among w .keys)) ↔ (awayFrom (v .owner .node) k ≤ r)) (radius-is v)
+        (d .accepts point ad (λ h. new (held-iff box v equal k .0 h)));
+    reloads = λ {text = text} point u.
+        (λ h. d .reloads point u .0 (gives-iff text u .0 h), λ h. gives-iff text u .1 (d .reloads point u .1 h));
+  }

@@ -1,0 +1,126 @@
+-- The terms of `runs` in those of the box. A key is admitted by its bytes and its content; a view keeps the rules exactly when it is shaped
+-- and passes the test behind number 0; its announced radius is the one that the index gives; a text gives a view exactly when it is the view's
+-- saved form. Assumes nothing.
+use Prim.Native.Nat.{ℕ, _≤_, _<_}
+use native.Mathlib.Decide.{decLt}
+use native.Mathlib.Omega.{arith}
+use mathlib.Core.Path.{_≡_, refl, sym, ap, _∙_}
+use mathlib.Core.Bool.{Bool, true, false, cond}
+use mathlib.Core.Option.{Option, none, some}
+use mathlib.Core.Logic.{_↔_}
+use mathlib.Core.List.{List, [], _∷_, List·Memᴰ·head as here, List·Memᴰ·tail as there}
+use lib.ListN.{length}
+use Rattle.octets.specs.Bytes.{be}
+use Rattle.content_key.specs.Key.{selectorOf, keyOf}
+use Rattle.content_key.proofs.Keys.{key-given}
+use Rattle.rlp.specs.Content.{acceptable}
+use Rattle.nearest.specs.Sorted.{_among_}
+use Rattle.runs.specs.Views.{View, Good, radius, Gives}
+use Rattle.runs.specs.Done.{Admitted}
+use Rattle.runs.proofs.Views.{radius-room, radius-full}
+use Rattle.key_index.specs.Good.{awayFrom, good, lastOf, radiusOf}
+use Rattle.key_index.proofs.Each.{Each, each-member}
+use Rattle.key_index.proofs.Chunks.{NineBytes}
+use Rattle.key_index.proofs.Rules.{good-facts, facts-good}
+use Rattle.key_store.proofs.Facts.{OfBytes, sorted-near, near-sorted, last-apart, reach-room, reach-full}
+use Rattle.snapshot.specs.Text.{snapshotOf}
+use Rattle.snapshot.specs.Load.{Loading, badLine, loaded, loadOf}
+use Rattle.snapshot.proofs.RoundTrip.{Shaped, loaded-written, accepted-iff}
+use Rattle.demands.specs.Box.{Owner, ValidKey, Raw, grouped, spread, readOf, viewIn}
+use Rattle.demands.specs.Setting.{key-is, box}
+
+-- a fact of each key, from one of each that is held
+each-of : (P : List ℕ → Type 0) (ks : List (List ℕ)) → ((k : List ℕ) → k among ks → P k) → Each P ks
+each-of P [] h = tt
+each-of P (k ∷ ks) h = (h k (here refl), each-of P ks (λ j m. h j (there m)))
+
+-- keys count as one where they are equal
+pub equal : (j k : List ℕ) → (j ≡ k) ↔ (j ≡ k)
+equal j k = (λ e. e, λ e. e)
+
+-- a store call presents a key with acceptable content: the bytes are that key, nine with a selector of 0 or 1, and the content is acceptable
+pub admitted-iff : (o : Owner) (raw : Raw) (content k : List ℕ)
+    → Admitted box o raw content k ↔ ((raw .bytes ≡ k) × (ValidKey k × (acceptable content ≡ true)))
+admitted-iff o raw content k = (to, from)
+  where
+    passed : (t : Bool) → cond {A = Option ℕ} t none (some 9) ≡ none → t ≡ true
+    passed true e = refl
+    passed false e = let z : _≡_ {A = ℕ} 0 1 = cc in absurd (omega arith)
+
+    to : Admitted box o raw content k → (raw .bytes ≡ k) × (ValidKey k × (acceptable content ≡ true))
+    to a = let is = key-is raw k (a .presented) in (is .0, (is .1, passed (acceptable content) (a .acceptable)))
+
+    from : (raw .bytes ≡ k) × (ValidKey k × (acceptable content ≡ true)) → Admitted box o raw content k
+    from h =
+        let valid = h .1 .0 in
+        record {
+          presented = ap readOf (ap keyOf (h .0) ∙ key-given k (valid .nine .size) (valid .selector));
+          acceptable = ap (λ (t : Bool). cond t none (some 9)) (h .1 .1);
+        }
+
+module _ (v : View box) where
+  -- a view that keeps the rules has 32 bytes of node id and of cap, and nine of each key,
+  pub good-shaped : Good box v → Shaped (spread v)
+  good-shaped g = record {
+    node-size = g .validOwner .node-size;
+    node-bytes = g .validOwner .node-bytes;
+    cap-size = g .validOwner .cap-size;
+    cap-bytes = g .validOwner .cap-bytes;
+    nine = each-of NineBytes (v .keys) (λ k m. g .validKeys k m .nine);
+  }
+
+  -- and passes the test behind number 0;
+  pub good-passes : Good box v → good 240 (spread v) ≡ true
+  good-passes g =
+      facts-good 240 (spread v)
+      (record {
+        few = g .most;
+        each = record {
+          selectors = each-of (λ (k : List ℕ). selectorOf k ≤ 1) (v .keys) (λ k m. g .validKeys k m .selector);
+          sorted = near-sorted (v .owner .node) 0 (v .keys) (g .sorted);
+          within = each-of (λ (k : List ℕ). awayFrom (v .owner .node) k ≤ be (v .owner .cap)) (v .keys) (g .within);
+        };
+      })
+
+  -- a view of which both are true keeps the rules
+  pub passes-good : Shaped (spread v) → good 240 (spread v) ≡ true → Good box v
+  passes-good s t =
+      let f = good-facts 240 (spread v) t in
+      record {
+        validOwner = record { node-size = s .node-size; node-bytes = s .node-bytes; cap-size = s .cap-size; cap-bytes = s .cap-bytes };
+        validKeys = λ k m. record {
+          nine = each-member NineBytes (v .keys) (s .nine) m;
+          selector = each-member (λ (j : List ℕ). selectorOf j ≤ 1) (v .keys) (f .each .selectors) m;
+        };
+        most = f .few;
+        sorted = sorted-near (v .owner .node) 0 (v .keys) (f .each .sorted);
+        within = λ k m. each-member (λ (j : List ℕ). awayFrom (v .owner .node) j ≤ be (v .owner .cap)) (v .keys) (f .each .within) m;
+      }
+
+  -- it is made of bytes
+  pub good-bytes : Good box v → OfBytes (spread v)
+  good-bytes g = let s = good-shaped g in record { size = s .node-size; node = s .node-bytes; each = s .nine }
+
+  -- the announced radius is that of the index
+  pub radius-is : radius box v ≡ be (radiusOf 240 (spread v))
+  radius-is = by (decLt (length (v .keys)) 240)
+    where
+      by : Dec (length (v .keys) < 240) → radius box v ≡ be (radiusOf 240 (spread v))
+      by (yes h) = radius-room box v h ∙ sym (ap be (reach-room 240 (spread v) h))
+      by (no h) =
+          let s = last-apart (v .keys) (omega arith) in
+          radius-full box v (s .0) (lastOf (v .keys)) (omega arith) (s .1) ∙ sym (ap be (reach-full 240 (spread v) (omega arith)))
+
+-- a text gives a view exactly when it is the saved form of that view, and the view keeps the rules
+pub gives-iff : (text : List ℕ) (u : View box) → ((text ≡ snapshotOf (spread u)) × Good box u) ↔ Gives box text u
+gives-iff text u = (to, λ h. (from (loadOf 240 text) refl (h .0), h .1))
+  where
+    to : (text ≡ snapshotOf (spread u)) × Good box u → Gives box text u
+    to h =
+        (ap viewIn (accepted-iff 240 text (spread u) (omega arith) .1 (sym (h .0), (good-shaped u (h .1), good-passes u (h .1)))), h .1)
+
+    from : (l : Loading) → loadOf 240 text ≡ l → viewIn l ≡ some u → text ≡ snapshotOf (spread u)
+    from (badLine line) e f = let z : _≡_ {A = ℕ} 0 1 = cc in absurd (omega arith)
+    from (loaded w) e f =
+        let same : grouped w ≡ u = cc in
+        sym (loaded-written 240 text w e .0) ∙ ap (λ (x : View box). snapshotOf (spread x)) same

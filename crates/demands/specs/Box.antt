@@ -1,0 +1,64 @@
+-- The box in the terms of `runs`: its owners, keys and calls, and how it reads keys, content and saved texts, at a limit of 240 keys.
+use Prim.Native.Nat.{ℕ, _≤_}
+use mathlib.Core.Path.{_≡_}
+use mathlib.Core.Bool.{cond}
+use mathlib.Core.List.{List}
+use mathlib.Core.Option.{Option, none, some}
+use lib.ListN.{length}
+use Rattle.refusal.specs.Outcome.{Outcome}
+use Rattle.octets.specs.Bytes.{Bytes}
+use Rattle.content_key.specs.Key.{selectorOf, keyOf}
+use Rattle.rlp.specs.Content.{acceptable}
+use Rattle.runs.specs.Setting.{ViewOf, Read, value, refusal}
+use Rattle.key_index.specs.View.{View}
+use Rattle.key_index.proofs.Chunks.{NineBytes}
+use Rattle.snapshot.specs.Load.{Loading, badLine, loaded, loadOf}
+
+-- node id and cap ("ceiling" in document 01)
+pub record Owner : Type 0 where
+  pub node : List ℕ
+  pub cap : List ℕ
+
+-- of 32 bytes each
+pub record ValidOwner (o : Owner) : Type 0 where
+  pub node-size : length (o .node) ≡ 32
+  pub node-bytes : Bytes (o .node)
+  pub cap-size : length (o .cap) ≡ 32
+  pub cap-bytes : Bytes (o .cap)
+
+-- a key: nine bytes, the selector 0 or 1
+pub record ValidKey (key : List ℕ) : Type 0 where
+  pub nine : NineBytes key
+  pub selector : selectorOf key ≤ 1
+
+-- the key bytes of a call: any bytes. Content and text of a call are any lists.
+pub record Raw : Type 0 where
+  pub bytes : List ℕ
+  pub each : Bytes bytes
+
+-- the view of an index, with node id and cap put together, and taken apart again
+abbrev pub grouped : View → ViewOf Owner (List ℕ)
+grouped v = record { owner = record { node = v .node; cap = v .cap }; keys = v .keys }
+
+abbrev pub spread : ViewOf Owner (List ℕ) → View
+spread v = record { node = v .owner .node; cap = v .owner .cap; keys = v .keys }
+
+-- the key that bytes are, or 7 or 8
+abbrev pub readOf : Outcome (List ℕ) → Read (List ℕ)
+readOf (Outcome.given key) = value key
+readOf (Outcome.refused n) = refusal n
+
+abbrev pub keyFrom : Raw → Read (List ℕ)
+keyFrom raw = readOf (keyOf (raw .bytes))
+
+-- 9 against content that is not acceptable
+abbrev pub faultOf : List ℕ → Option ℕ
+faultOf content = cond (acceptable content) none (some 9)
+
+-- the view that a saved text gives, if any
+abbrev pub viewIn : Loading → Option (ViewOf Owner (List ℕ))
+viewIn (badLine line) = none
+viewIn (loaded v) = some (grouped v)
+
+abbrev pub textFrom : List ℕ → Option (ViewOf Owner (List ℕ))
+textFrom text = viewIn (loadOf 240 text)

@@ -1,0 +1,6 @@
+pub mod Box
+pub mod Setting
+pub mod Step
+pub mod Plainly
+pub mod Answered
+pub mod Examples

@@ -1,0 +1,1 @@
+// A crate of statements: demand 3 for the box, undivided, and the marked examples of document 01.

@@ -1,0 +1,44 @@
+-- The records at some places: how many they are, which one stands where, and how long a part is. Assumes nothing.
+use Prim.Native.Nat.{ℕ, zero, suc, _+_, _<_, _≤_}
+use native.Mathlib.Decide.{ℕ-discrete}
+use native.Mathlib.Omega.{arith}
+use mathlib.Core.Path.{_≡_, refl, _∙_}
+use mathlib.Core.List.{List, [], _∷_, _++_}
+use lib.ListN.{length, getD, length-append, length-take, length-drop, List·getD-append}
+use lib.Seq.{getD-at}
+use Rattle.message.specs.Reading.{partAt, recordsAt}
+
+-- a part that lies in a list has its length
+pub part-length : (s : List ℕ) (base size : ℕ) → base + size ≤ length s → length (partAt s base size) ≡ size
+part-length s base size fits = simp (length-take, length-drop) (omega arith)
+
+-- as many records as places
+pub records-length : (s starts lens : List ℕ) (n : ℕ) → length (recordsAt s starts lens n) ≡ n
+unfolding recordsAt
+records-length s starts lens zero = refl
+records-length s starts lens (suc n) =
+    let here = partAt s (getD starts n 0) (getD lens n 0) in
+    omega (arith, length-append (recordsAt s starts lens n) (here ∷ []), records-length s starts lens n)
+
+-- each record is the part at its place
+pub record-at : (s starts lens : List ℕ) (n k : ℕ) → k < n
+    → getD (recordsAt s starts lens n) k [] ≡ partAt s (getD starts k 0) (getD lens k 0)
+unfolding recordsAt
+record-at s starts lens zero k h = absurd (omega arith)
+record-at s starts lens (suc n) k h = go (record-at s starts lens n k) (ℕ-discrete k n)
+  where
+    front : List (List ℕ)
+    front = recordsAt s starts lens n
+
+    many : length front ≡ n
+    many = records-length s starts lens n
+
+    last : List ℕ
+    last = partAt s (getD starts n 0) (getD lens n 0)
+
+    go : (k < n → getD front k [] ≡ partAt s (getD starts k 0) (getD lens k 0)) → Dec (k ≡ n)
+        → getD (front ++ (last ∷ [])) k [] ≡ partAt s (getD starts k 0) (getD lens k 0)
+    go before (yes e) = rw e (getD-at front last [] [] n many)
+    go before (no ne) =
+        let less : k < n = omega arith in
+        List·getD-append front (last ∷ []) [] k (omega (arith, many)) ∙ before less

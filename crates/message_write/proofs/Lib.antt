@@ -1,0 +1,9 @@
+pub mod Puts
+pub mod Answers
+pub mod Lists
+pub mod Loans
+pub mod Turns
+pub mod Wholes
+pub mod Shapes
+pub mod Found
+pub mod RoundTrips

@@ -1,0 +1,116 @@
+-- The round trips of the code: what a write call wrote is read back as the values handed in, and what reading accepts, written again, gives the
+-- same bytes. A call that answers how many bytes it wrote had values that keep the rules, and wrote their bytes; `written-read` and `read-written`
+-- of `message` do the rest. Assumes nothing.
+use Prim.Native.Nat.{ℕ, _≤_, _<_}
+use native.Mathlib.Omega.{arith}
+use mathlib.Core.Path.{_≡_, refl, sym, ap, subst, _∙_}
+use mathlib.Core.Bool.{Bool, true, false, cond}
+use mathlib.Core.List.{List}
+use mathlib.Core.Option.{Option, some, none}
+use lib.Dec.{ltb}
+use lib.ListN.{length, take, drop, length-append}
+use lib.Seq.{take-at}
+use borrow.Author.Tests.{le-ltb, ltb-false}
+use Rattle.refusal.specs.Outcome.{Outcome, given, refused}
+use Rattle.refusal.specs.Buffer.{Writes}
+use Rattle.refusal.specs.declared.Wrote.{Wrote}
+use Rattle.octets.specs.Bytes.{Bytes}
+use Rattle.message.specs.Values.{Message, Sized, Formed, foundNodes, foundContent}
+use Rattle.message.specs.Encode.{encode}
+use Rattle.message.specs.Rules.{rulesOf}
+use Rattle.message.specs.Decode.{decode}
+use Rattle.message.specs.Reading.{readingOf, ReadTo}
+use Rattle.message.specs.declared.Reading.{Reading}
+use Rattle.message.proofs.Rules.{Judged, kept, broken, judged}
+use Rattle.message.proofs.Messages.{written-read, read-written, read-formed, read-short}
+use Rattle.message_write.specs.Lent.{lent}
+use Rattle.message_write.specs.Write.{ruledBytes, bytesFor, bytesForLent}
+use Rattle.message_write.proofs.Loans.{lent-bytes}
+
+-- the first n bytes of the buffer are the message, and are read as its values
+pub record WrittenBack (m : Message) (n : ℕ) (after : List ℕ) : Type 0 where
+  pub inside : n ≤ length after
+  pub bytes : take n after ≡ encode m
+  pub read : decode (take n after) ≡ given m
+
+given-not : {A : Type 0} {B : Type 0} (n : ℕ) (a : A) → refused n ≡ given a → B
+given-not n a e = absurd (let z : _≡_ {A = ℕ} 0 1 = cc in omega arith)
+
+-- bytes that are given keep the rules, are not too long, and are the message's
+record Given (m : Message) (bytes : List ℕ) : Type 0 where
+  rules : rulesOf m ≡ given m
+  short : length (encode m) ≤ 1280
+  same : bytes ≡ encode m
+
+bytes-given : (m : Message) (room : ℕ) (bytes : List ℕ) → bytesFor m room ≡ given bytes → Given m bytes
+bytes-given m room bytes e = go (rulesOf m) (judged m) refl e
+  where
+    fits : rulesOf m ≡ given m → (a b : Bool) → ltb 1280 (length (encode m)) ≡ a
+        → cond a (refused 2) (cond b (refused 13) (given (encode m))) ≡ given bytes → Given m bytes
+    fits r true b p q = given-not 2 bytes q
+    fits r false true p q = given-not 13 bytes q
+    fits r false false p q = record { rules = r; short = ltb-false 1280 (length (encode m)) p; same = cc }
+
+    go : (o : Outcome Message) → Judged m o → rulesOf m ≡ o → ruledBytes o room ≡ given bytes → Given m bytes
+    go _ kept r q = fits r (ltb 1280 (length (encode m))) (ltb room (length (encode m))) refl q
+    go _ (broken {n} low high) r q = given-not n bytes q
+
+-- what a write call wrote is read back as the values handed in
+pub written-back : (m : Message) → Formed m → (room n : ℕ) (before after : List ℕ) → Writes (bytesFor m room) (Wrote.Bytes n) before after
+    → WrittenBack m n after
+written-back m f room n before after w = go (bytesFor m room) refl w
+  where
+    go : (o : Outcome (List ℕ)) → bytesFor m room ≡ o → Writes o (Wrote.Bytes n) before after → WrittenBack m n after
+    go (refused k) e v = given-not k n (sym (v .answered))
+    go (given bytes) e v =
+        let g = bytes-given m room bytes e in
+        let long : length bytes ≡ n = cc (v .answered) in
+        let front : take n after ≡ encode m = ap (take n) (v .buffer) ∙ take-at bytes (drop (length bytes) before) n long ∙ g .same in
+        record {
+          inside = omega (arith, ap length (v .buffer), length-append bytes (drop (length bytes) before));
+          bytes = front;
+          read = ap decode front ∙ written-read m f (g .rules) (g .short);
+        }
+
+-- so every answer that reading gives for those bytes stands for the values
+pub written-reads : (m : Message) → Formed m → (room n : ℕ) (before after : List ℕ) → Writes (bytesFor m room) (Wrote.Bytes n) before after
+    → (a : Reading) → ReadTo (decode (take n after)) (take n after) a → readingOf (take n after) a ≡ given m
+written-reads m f room n before after w a r = r .value ∙ written-back m f room n before after w .read
+
+-- the same for a message of records that are lent: there are such records, and the message is read back with them
+pub record LentBack (make : List (List ℕ) → Message) (o : Option (List (List ℕ))) (n : ℕ) (after : List ℕ) : Type 0 where
+  pub records : List (List ℕ)
+  pub lent : o ≡ some records
+  pub back : WrittenBack (make records) n after
+
+lent-back : (make : List (List ℕ) → Message) (o : Option (List (List ℕ))) → ((rs : List (List ℕ)) → o ≡ some rs → Formed (make rs))
+    → (room n : ℕ) (before after : List ℕ) → Writes (bytesForLent make o room) (Wrote.Bytes n) before after → LentBack make o n after
+lent-back make none f room n before after w = given-not 4 n (sym (w .answered))
+lent-back make (some rs) f room n before after w =
+    record { records = rs; lent = refl; back = written-back (make rs) (f rs refl) room n before after w }
+
+module _ (s starts lens : List ℕ) (are : Bytes s) (room n : ℕ) (before after : List ℕ) where
+  pub nodes-back : (total : ℕ) → total < 256 → Writes (bytesForLent (foundNodes total) (lent s starts lens) room) (Wrote.Bytes n) before after
+      → LentBack (foundNodes total) (lent s starts lens) n after
+  nodes-back total small w =
+      lent-back (foundNodes total) (lent s starts lens) (λ rs e. (small, lent-bytes s starts lens are rs e)) room n before after w
+
+  pub content-back : (connection content : List ℕ) → Sized 4 connection → Bytes content
+      → Writes (bytesForLent (λ (rs : List (List ℕ)). foundContent connection rs content) (lent s starts lens) room) (Wrote.Bytes n) before after
+      → LentBack (λ (rs : List (List ℕ)). foundContent connection rs content) (lent s starts lens) n after
+  content-back connection content four b w =
+      lent-back (λ (rs : List (List ℕ)). foundContent connection rs content) (lent s starts lens)
+      (λ rs e. (four, (lent-bytes s starts lens are rs e, b))) room n before after w
+
+-- what reading accepts, written again, gives the same bytes
+module _ (s : List ℕ) (are : Bytes s) (a : Reading) (r : ReadTo (decode s) s a) (m : Message) (e : readingOf s a ≡ given m) where
+  pub read-again : encode m ≡ s
+  read-again = read-written s m are (sym (r .value) ∙ e)
+
+  -- so a write call of those values into a buffer that has room writes these bytes
+  pub read-rewritten : (room : ℕ) → length s ≤ room → bytesFor m room ≡ given s
+  read-rewritten room h =
+      let d : decode s ≡ given m = sym (r .value) ∙ e in
+      let short : length s ≤ 1280 = subst (λ (l : List ℕ). length l ≤ 1280) read-again (read-short s m are d) in
+      ap (λ (o : Outcome Message). ruledBytes o room) (read-formed s m are d .1)
+      ∙ rw (read-again, le-ltb 1280 (length s) short, le-ltb room (length s) h)

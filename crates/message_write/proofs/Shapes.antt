@@ -1,0 +1,73 @@
+-- What the rules and the bytes of each message without records come to, by the tests of the code. Assumes nothing.
+use Prim.Native.Nat.{ℕ, _+_, _≤_, _<_}
+use native.Mathlib.Omega.{arith}
+use mathlib.Core.Path.{_≡_, sym, ap₂}
+use mathlib.Core.Bool.{Bool, true, false, not}
+use mathlib.Core.List.{List, [], _∷_, _++_, reverse}
+use lib.Dec.{eqb}
+use lib.ListN.{length}
+use borrow.Author.Tests.{le-leb, lt-leb, eq-eqb, ne-eqb, not-true, not-false}
+use Rattle.refusal.specs.Outcome.{given, refused}
+use Rattle.octets.specs.Bytes.{leBytes}
+use Rattle.content_key.specs.Key.{keyOf}
+use Rattle.message.specs.Values.{findNode, store}
+use Rattle.message.specs.Encode.{offset, encode}
+use Rattle.message.specs.Rules.{one, present, connected, allDifferent, rulesOf}
+use Rattle.message_write.specs.Kinds.{probeOf, keyMessageOf}
+use Rattle.message_write.specs.Write.{fitting, bytesFor}
+use Rattle.message_write.specs.Parts.{probeType, keyType, thingsOf}
+use Rattle.message_write.specs.declared.Probe.{Probe}
+use Rattle.message_write.specs.declared.Probe.the-variants.{Ping, Pong}
+use Rattle.message_write.specs.declared.KeyMessage.{KeyMessage}
+use Rattle.message_write.specs.declared.KeyMessage.the-variants.{FindContent, Offer, Accept}
+use Rattle.message_write.proofs.Lists.{present-length}
+
+-- Ping and Pong
+pub probe-good : (kind : Probe) (radius : List ℕ) (room t : ℕ) (rest : List ℕ) → t ≡ probeType kind → rest ≡ reverse radius
+    → bytesFor (probeOf kind radius) room ≡ fitting (t ∷ rest) room
+unfolding rulesOf encode
+probe-good Ping radius room t rest e f = ap₂ (λ (k : ℕ) (l : List ℕ). fitting (k ∷ l) room) (sym e) (sym f)
+probe-good Pong radius room t rest e f = ap₂ (λ (k : ℕ) (l : List ℕ). fitting (k ∷ l) room) (sym e) (sym f)
+
+-- FindNode
+module _ (ds : List ℕ) (room : ℕ) where
+  pub distances-many : 256 < length ds → bytesFor (findNode ds) room ≡ refused 5
+  unfolding rulesOf
+  distances-many h = rw (lt-leb (length ds) 256 h)
+
+  module _ (few : length ds ≤ 256) (t : Bool) (is : t ≡ allDifferent eqb ds) where
+    pub distances-equal : not t ≡ true → bytesFor (findNode ds) room ≡ refused 6
+    unfolding rulesOf
+    distances-equal e = rw (le-leb (length ds) 256 few, ← is, not-true t e)
+
+    pub distances-good : not t ≡ false → bytesFor (findNode ds) room ≡ fitting ((3 ∷ 4 ∷ 0 ∷ 0 ∷ 0 ∷ []) ++ ds) room
+    unfolding rulesOf encode leBytes
+    distances-good e = rw (le-leb (length ds) 256 few, ← is, not-false t e)
+
+-- FindContent, Offer, Accept
+pub key-bad : (kind : KeyMessage) (key : List ℕ) (room n : ℕ) → refused n ≡ keyOf key → bytesFor (keyMessageOf kind key) room ≡ refused n
+unfolding rulesOf
+key-bad FindContent key room n e = rw (← e)
+key-bad Offer key room n e = rw (← e)
+key-bad Accept key room n e = rw (← e)
+
+pub key-good : (kind : KeyMessage) (key : List ℕ) (room : ℕ) (k : List ℕ) → given k ≡ keyOf key → (t : ℕ) → t ≡ keyType kind
+    → bytesFor (keyMessageOf kind key) room ≡ fitting ((t ∷ 4 ∷ 0 ∷ 0 ∷ 0 ∷ []) ++ key) room
+unfolding rulesOf encode leBytes
+key-good FindContent key room k e t is = rw (← e, is)
+key-good Offer key room k e t is = rw (← e, is)
+key-good Accept key room k e t is = rw (← e, is)
+
+-- Store
+module _ (connection content : List ℕ) (room n : ℕ) (is : n ≡ thingsOf connection 0 (length content)) where
+  counted : one (connected connection) + one (present content) ≡ n
+  unfolding thingsOf
+  counted = rw (present-length content) (omega arith)
+
+  pub store-bad : (n ≡ 1 → ⊥) → bytesFor (store connection content) room ≡ refused 6
+  unfolding rulesOf
+  store-bad h = rw (counted, ne-eqb n 1 h)
+
+  pub store-good : n ≡ 1 → (head : List ℕ) → head ≡ 9 ∷ (connection ++ offset 8) → bytesFor (store connection content) room ≡ fitting (head ++ content) room
+  unfolding rulesOf encode
+  store-good h head e = rw (counted, eq-eqb n 1 h, e)

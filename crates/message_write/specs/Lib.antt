@@ -1,0 +1,4 @@
+pub mod Kinds
+pub mod Lent
+pub mod Write
+pub mod Parts

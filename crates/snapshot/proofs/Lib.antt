@@ -1,0 +1,7 @@
+pub mod Frames
+pub mod KeyLines
+pub mod RoundTrip
+pub mod Answers
+pub mod Reading
+pub mod Writing
+pub mod Loading

@@ -1,0 +1,211 @@
+-- The pass of `load`. `Through` is what holds at the loop's head: what the text gives is the keys so far in front of what its rest gives.
+-- The laws are its steps: the first line, a bad line, a good one, and the two ends; and what `load` and `reload` answer. Assumes nothing.
+use Prim.Native.Nat.{ℕ, suc, _+_, _-_, _*_, _≤_, _<_}
+use native.Mathlib.Numerals.{add-one}
+use native.Mathlib.Omega.{arith}
+use mathlib.Core.Path.{_≡_, refl, sym, ap, ap₂, _∙_}
+use mathlib.Core.Bool.{Bool, true, false, cond}
+use mathlib.Core.List.{List, [], _∷_, _++_, append-nil, append-assoc}
+use lib.Dec.{eqb, eqb·suc-zero}
+use lib.ListN.{length, take, drop, length-drop, drop-of-length-le}
+use lib.Seq.{append-snoc, take-at, drop-at, drop-drop, take-all, length-take-le, paste, length-paste}
+use Rattle.octets.specs.Bytes.{be}
+use Rattle.refusal.specs.declared.Checked.the-variants.{Refused}
+use Rattle.refusal.specs.declared.Refusal.the-variants.{BadIndex, BadSnapshot}
+use Rattle.key_index.specs.declared.KeyIndex.{KeyIndex}
+use Rattle.key_index.specs.View.{View, view, chunks, freshOf, withKeys}
+use Rattle.key_index.specs.Good.{awayFrom, good}
+use Rattle.key_index.proofs.Chunks.{chunks-more, chunks-only}
+use Rattle.snapshot.specs.Load.{Loading, badLine, loaded, afterFrame, keyIn, before, ending, keysOf, nodeIn, capIn, countIn, loadOf}
+use Rattle.snapshot.specs.Parts.{lowest, ReadsHeader, ReadsKey}
+use Rattle.snapshot.specs.Calls.{now, back, reloadedBy, reloadFor, meaningOf}
+use Rattle.snapshot.specs.declared.ReloadAnswer.{ReloadAnswer}
+use Rattle.snapshot.specs.declared.Header.{Header}
+use Rattle.snapshot.specs.declared.KeyLine.{KeyLine}
+use Rattle.snapshot.proofs.Frames.{framed}
+use Rattle.snapshot.proofs.KeyLines.{key-facts, key-nine}
+use Rattle.snapshot.proofs.RoundTrip.{header-facts}
+
+-- keys in front of those that follow
+abbrev onto : List (List ℕ) → Loading → Loading
+onto ks (badLine line) = badLine line
+onto ks (loaded v) = loaded (withKeys v (ks ++ v .keys))
+
+onto-none : (l : Loading) → onto [] l ≡ l
+onto-none (badLine line) = refl
+onto-none (loaded v) = refl
+
+onto-more : (ks : List (List ℕ)) (k : List ℕ) (l : Loading) → onto (ks ++ (k ∷ [])) l ≡ onto ks (before k l)
+onto-more ks k (badLine line) = refl
+onto-more ks k (loaded v) = ap (λ (js : List (List ℕ)). loaded (withKeys v js)) (append-snoc ks k (v .keys))
+
+-- what the text gives from place i on, after a key at the distance `last`
+abbrev restOf : List ℕ → List ℕ → List ℕ → ℕ → List ℕ → ℕ → Loading
+restOf text node cap count last i = keysOf node cap (i + 2) (lowest (eqb i 0) last) (count - i) (drop (133 + 21 * i) text)
+
+pub record Through (text node cap : List ℕ) (count : ℕ) (keys last : List ℕ) (i : ℕ) : Type 0 where
+  pub inside : i ≤ count
+  pub few : count ≤ 240
+  pub fits : 133 + 21 * i ≤ length text
+  pub size : length keys ≡ 2160
+  pub same : loadOf 240 text ≡ onto (chunks i keys) (restOf text node cap count last i)
+
+-- the first line is bad
+pub first-bad : (text : List ℕ) (h : Header) → ReadsHeader text h → h .good ≡ false → loadOf 240 text ≡ badLine 1
+unfolding loadOf
+first-bad text h r e =
+    ap (λ (t : Bool). cond t (keysOf (nodeIn text) (capIn text) 2 0 (countIn text) (afterFrame 66 text)) (badLine 1)) (sym (r .tested) ∙ e)
+
+-- it is good
+pub first-good : (text : List ℕ) (h : Header) → ReadsHeader text h → h .good ≡ true → (keys last : List ℕ) → length keys ≡ 2160
+    → Through text (h .node) (h .cap) (h .count) keys last 0
+unfolding loadOf chunks
+first-good text h r e keys last size =
+    let good = sym (r .tested) ∙ e in
+    let facts = header-facts 240 text good in
+    let few = facts .few in
+    let is = r .count-is e in
+    let all : h .count ≡ h .count - 0 = omega arith in
+    let inside = framed 66 text (facts .frame) .inside in
+    record {
+      inside = omega arith;
+      few = omega arith;
+      fits = omega arith;
+      size = size;
+      same = ap (λ (t : Bool). cond t (keysOf (nodeIn text) (capIn text) 2 0 (countIn text) (afterFrame 66 text)) (badLine 1)) good
+          ∙ ap₂ (λ (n c : List ℕ). keysOf n c 2 0 (countIn text) (afterFrame 66 text)) (sym (r .node-is e)) (sym (r .cap-is e))
+          ∙ ap (λ (k : ℕ). keysOf (h .node) (h .cap) 2 0 k (afterFrame 66 text)) (sym is ∙ all)
+          ∙ sym (onto-none (restOf text (h .node) (h .cap) (h .count) last 0));
+    }
+
+-- a key put at place i comes after those before it
+put-more : (keys key : List ℕ) (i : ℕ) → length key ≡ 9 → 9 * i + 9 ≤ length keys
+    → chunks (i + 1) (paste keys (9 * i) key 9) ≡ chunks i keys ++ (key ∷ [])
+put-more keys key i n h =
+    let b : List ℕ = paste keys (9 * i) key 9 in
+    let front : length (take (9 * i) keys) ≡ 9 * i = length-take-le (9 * i) keys (omega arith) in
+    let parts : b ≡ take (9 * i) keys ++ (key ++ drop (9 * i + 9) keys) =
+    append-assoc (take (9 * i) keys) (take 9 key) (drop (9 * i + 9) keys)
+    ∙ ap (λ (k : List ℕ). take (9 * i) keys ++ (k ++ drop (9 * i + 9) keys)) (take-all 9 key (omega arith)) in
+    ap (λ (k : ℕ). chunks k b) (add-one i)
+    ∙ chunks-more i b
+    ∙ ap₂ (λ (l : List (List ℕ)) (k : List ℕ). l ++ (k ∷ []))
+    (chunks-only i b keys
+    (ap (take (9 * i)) parts ∙ take-at (take (9 * i) keys) (key ++ drop (9 * i + 9) keys) (9 * i) front))
+    (ap (λ (l : List ℕ). take 9 (drop (9 * i) l)) parts
+    ∙ ap (take 9) (drop-at (take (9 * i) keys) (key ++ drop (9 * i + 9) keys) (9 * i) front)
+    ∙ take-at key (drop (9 * i + 9) keys) 9 n)
+
+module _ (text node cap : List ℕ) (count : ℕ) (keys last : List ℕ) (i : ℕ) (t : Through text node cap count keys last i) where
+  -- after the last line the text ends
+  pub all-read : count ≤ i → length text ≡ 133 + 21 * count
+      → loadOf 240 text ≡ loaded (record { node = node; cap = cap; keys = chunks count keys })
+  unfolding keysOf
+  all-read h e =
+      let none : count - i ≡ 0 = omega arith in
+      let last-one : i ≡ count = let l = t .inside in omega arith in
+      t .same
+      ∙ ap₂ (λ (n : ℕ) (rest : List ℕ). onto (chunks i keys) (keysOf node cap (i + 2) (lowest (eqb i 0) last) n rest)) none
+      (drop-of-length-le text {i = 133 + 21 * i} (omega arith))
+      ∙ ap (λ (ks : List (List ℕ)). loaded (record { node = node; cap = cap; keys = ks }))
+      (append-nil (chunks i keys) ∙ ap (λ (n : ℕ). chunks n keys) last-one)
+
+  -- it goes on
+  pub too-long : count ≤ i → (length text ≡ 133 + 21 * count → ⊥) → loadOf 240 text ≡ badLine (count + 2)
+  unfolding keysOf
+  too-long h n =
+      let none : count - i ≡ 0 = omega arith in
+      let last-one : i ≡ count = let l = t .inside in omega arith in
+      t .same
+      ∙ ap (λ (n : ℕ). onto (chunks i keys) (keysOf node cap (i + 2) (lowest (eqb i 0) last) n (drop (133 + 21 * i) text))) none
+      ∙ go (drop (133 + 21 * i) text) (λ e. n (let f = t .fits in omega (arith, length-drop (133 + 21 * i) text, ap length e)))
+      ∙ ap (λ (n : ℕ). badLine (n + 2)) last-one
+    where
+      go : (rest : List ℕ) → (rest ≡ [] → ⊥) → onto (chunks i keys) (ending (freshOf node cap) (i + 2) rest) ≡ badLine (i + 2)
+      go [] n = absurd (n refl)
+      go (c ∷ rest) n = refl
+
+  -- a line is read
+  module _ (h : i < count) (line : KeyLine) (r : ReadsKey node cap (lowest (eqb i 0) last) (drop (133 + 21 * i) text) line) where
+    -- what its test leaves
+    split : restOf text node cap count last i
+        ≡ cond (line .good)
+        (before (keyIn (drop (133 + 21 * i) text))
+        (keysOf node cap (suc (i + 2)) (suc (awayFrom node (keyIn (drop (133 + 21 * i) text)))) (count - suc i) (afterFrame 10 (drop (133 + 21 * i) text))))
+        (badLine (i + 2))
+    unfolding keysOf
+    split =
+        let rest = drop (133 + 21 * i) text in
+        let more : count - i ≡ suc (count - suc i) = omega arith in
+        ap (λ (n : ℕ). keysOf node cap (i + 2) (lowest (eqb i 0) last) n rest) more
+        ∙ ap (λ (b : Bool). cond b (before (keyIn rest) (keysOf node cap (suc (i + 2)) (suc (awayFrom node (keyIn rest))) (count - suc i) (afterFrame 10 rest))) (badLine (i + 2)))
+        (sym (r .tested))
+
+    -- it is bad
+    pub line-bad : line .good ≡ false → loadOf 240 text ≡ badLine (i + 2)
+    line-bad e =
+        let rest = drop (133 + 21 * i) text in
+        t .same
+        ∙ ap (onto (chunks i keys))
+        (split
+        ∙ ap (λ (b : Bool). cond b (before (keyIn rest) (keysOf node cap (suc (i + 2)) (suc (awayFrom node (keyIn rest))) (count - suc i) (afterFrame 10 rest))) (badLine (i + 2))) e)
+
+    -- it is good, and its key is put at its place
+    pub line-good : line .good ≡ true → (next : List ℕ) → next ≡ paste keys (9 * i) (line .key) 9
+        → Through text node cap count next (line .far) (i + 1)
+    line-good e next p =
+        let rest = drop (133 + 21 * i) text in
+        let facts = key-facts node (be cap) (lowest (eqb i 0) last) rest (sym (r .tested) ∙ e) in
+        let inside = framed 10 rest (facts .frame) .inside in
+        let n : length (line .key) ≡ 9 = ap length (r .key-is e) ∙ key-nine rest (facts .frame) .size in
+        let few = t .few in
+        let size = t .size in
+        let fits : 133 + 21 * (i + 1) ≤ length text = let f = t .fits in omega (arith, length-drop (133 + 21 * i) text) in
+        let room : 9 * i + 9 ≤ length keys = omega arith in
+        let after : afterFrame 10 rest ≡ drop (133 + 21 * (i + 1)) text =
+        let sum : 133 + 21 * i + 21 ≡ 133 + 21 * (i + 1) = omega arith in
+        drop-drop 21 (133 + 21 * i) text ∙ ap (λ (k : ℕ). drop k text) sum in
+        let low : suc (awayFrom node (keyIn rest)) ≡ lowest (eqb (i + 1) 0) (line .far) =
+        ap (λ (d : List ℕ). suc (be d)) (sym (r .far-is e))
+        ∙ sym (ap (λ (b : Bool). lowest b (line .far)) (ap (λ (k : ℕ). eqb k 0) (add-one i) ∙ eqb·suc-zero i)) in
+        let number : suc (i + 2) ≡ i + 1 + 2 = omega arith in
+        let left : count - suc i ≡ count - (i + 1) = omega arith in
+        record {
+          inside = omega arith;
+          few = few;
+          fits = fits;
+          size = ap length p ∙ length-paste keys (9 * i) (line .key) 9 room (omega arith) ∙ size;
+          same = t .same
+              ∙ ap (onto (chunks i keys))
+              (split
+              ∙ ap (λ (b : Bool). cond b (before (keyIn rest) (keysOf node cap (suc (i + 2)) (suc (awayFrom node (keyIn rest))) (count - suc i) (afterFrame 10 rest))) (badLine (i + 2))) e)
+              ∙ sym (onto-more (chunks i keys) (keyIn rest) (keysOf node cap (suc (i + 2)) (suc (awayFrom node (keyIn rest))) (count - suc i) (afterFrame 10 rest)))
+              ∙ ap₂ onto
+              (ap (λ (k : List ℕ). chunks i keys ++ (k ∷ [])) (sym (r .key-is e))
+              ∙ sym (ap (chunks (i + 1)) p ∙ put-more keys (line .key) i n room))
+              (ap₂ (λ (a b : ℕ). keysOf node cap a b (count - suc i) (afterFrame 10 rest)) number low
+              ∙ ap₂ (λ (a : ℕ) (b : List ℕ). keysOf node cap (i + 1 + 2) (lowest (eqb (i + 1) 0) (line .far)) a b) left after);
+        }
+
+-- an answer that refuses a line
+pub refused-at : (index : KeyIndex) (text : List ℕ) (line : ℕ) (answer : ReloadAnswer)
+    → answer ≡ record { checked = Refused (BadSnapshot line); index = index } → loadOf 240 text ≡ badLine line
+    → meaningOf answer ≡ reloadedBy index (loadOf 240 text)
+refused-at index text line answer e l = ap meaningOf e ∙ sym (ap (reloadedBy index) l)
+
+-- an answer that accepts the text, with the keys and the count put into an index that was fresh
+pub accepted-as : (index : KeyIndex) (text node cap keys : List ℕ) (count : ℕ) (fresh : KeyIndex) → view fresh ≡ freshOf node cap
+    → loadOf 240 text ≡ loaded (record { node = node; cap = cap; keys = chunks count keys })
+    → now (record { node = fresh .node; cap = fresh .cap; keys = chunks count keys }) ≡ reloadedBy index (loadOf 240 text)
+accepted-as index text node cap keys count fresh f l =
+    ap₂ (λ (n c : List ℕ). now (record { node = n; cap = c; keys = chunks count keys }))
+    (ap (λ (v : View). v .node) f) (ap (λ (v : View). v .cap) f)
+    ∙ sym (ap (reloadedBy index) l)
+
+-- what `reload` answers for a bad index, and for a good one
+module _ (limit : ℕ) (index : KeyIndex) (text : List ℕ) where
+  pub reload-bad : good limit (view index) ≡ false → back BadIndex index ≡ reloadFor limit index text
+  reload-bad g = sym (ap (λ (b : Bool). cond b (reloadedBy index (loadOf limit text)) (back BadIndex index)) g)
+
+  pub reload-good : good limit (view index) ≡ true → reloadedBy index (loadOf limit text) ≡ reloadFor limit index text
+  reload-good g = sym (ap (λ (b : Bool). cond b (reloadedBy index (loadOf limit text)) (back BadIndex index)) g)

@@ -1,0 +1,129 @@
+-- `snapshot::load` meets its contract. The invariant is `Through` (`proofs/Loading.antt`), whose steps answer the returns and the next turn.
+-- The measure is what is left of the count. Assumes nothing.
+use Prim.Native.Nat.{_-_}
+use borrow.Author.Needs.{needs}
+use borrow.Author.Tests.{not-true, not-false}
+use Rattle.snapshot.proofs.Loading.{Through, first-bad, first-good, line-bad, line-good, too-long, all-read, refused-at, accepted-as}
+use Rattle.snapshot.proofs.load.Statement.{statement}
+use Rattle.snapshot.proofs.load.Tie as tie
+
+abbrev Inv-loop : tie.InvT-loop
+Inv-loop index text node cap count next keys₀ last₀ i₀ keys last i = Through text node cap count keys last i
+
+abbrev μ-loop : tie.MeasureT-loop
+μ-loop index text node cap count next keys₀ last₀ i₀ keys last i = count - i
+
+header-in-requires : tie.Need-header-in-requires Inv-loop μ-loop
+header-in-requires c κs = search needs
+
+bad-line-requires : tie.Need-bad-line-requires Inv-loop μ-loop
+bad-line-requires c κs = search needs
+
+returns : tie.Need-returns Inv-loop μ-loop
+returns c =
+    let a = c .before .before .before .before .before .args in
+    refused-at (a .index) (a .text .now) 1 _ (c .bad-line .ensures)
+    (first-bad (a .text .now) _ (c .before .before .before .header-in .ensures) (not-true _ (c .before .if1 .taken)))
+
+fresh-requires : tie.Need-fresh-requires Inv-loop μ-loop
+fresh-requires c κs = search needs
+
+loop-holds : tie.Need-loop-holds Inv-loop μ-loop
+loop-holds c =
+    let a = c .before .before .before .before .before .before .before .args in
+    first-good (a .text .now) _ (c .before .before .before .before .before .header-in .ensures) (not-false _ (c .before .before .before .if1 .left)) _ _ (search needs)
+
+mul-key-line : tie.Need-mul-key-line Inv-loop μ-loop
+mul-key-line c = search needs
+
+add-key-line : tie.Need-add-key-line Inv-loop μ-loop
+add-key-line c = search needs
+
+key-line-requires : tie.Need-key-line-requires Inv-loop μ-loop
+key-line-requires c κs = search needs
+
+add-bad-line : tie.Need-add-bad-line Inv-loop μ-loop
+add-bad-line c = search needs
+
+bad-line-requires-2 : tie.Need-bad-line-requires-2 Inv-loop μ-loop
+bad-line-requires-2 c κs = search needs
+
+returns-2 : tie.Need-returns-2 Inv-loop μ-loop
+returns-2 c =
+    let a = c .before .before .before .before .before .before .before .before .before .before .before .before .before .args in
+    let at = c .before .before .before .before .before in
+    refused-at (a .index) (a .text .now) _ _ (c .bad-line2 .ensures)
+    (line-bad _ _ _ _ _ _ _ (at .loop .inv) (c .before .before .before .before .loop-test .taken) _ (c .before .before .before .key-line .ensures) (not-true _ (c .before .if2 .taken)))
+
+slice-aggregate-put-key : tie.Need-slice-aggregate-put-key Inv-loop μ-loop
+slice-aggregate-put-key c = search needs
+
+put-key-requires : tie.Need-put-key-requires Inv-loop μ-loop
+put-key-requires c κs = search needs
+
+add-i : tie.Need-add-i Inv-loop μ-loop
+add-i c = search needs
+
+loop-less : tie.Need-loop-less Inv-loop μ-loop
+loop-less c = search needs
+
+loop-again : tie.Need-loop-again Inv-loop μ-loop
+loop-again c =
+    let at = c .before .before .before .before .before .before .before .before .before in
+    line-good _ _ _ _ _ _ _ (at .loop .inv) (c .before .before .before .before .before .before .before .before .loop-test .taken) _ (c .before .before .before .before .before .before .before .key-line .ensures) (not-false _ (c .before .before .before .before .before .if2 .left)) _
+    (c .before .put-key .ensures)
+
+mul-if3 : tie.Need-mul-if3 Inv-loop μ-loop
+mul-if3 c = search needs
+
+add-if3 : tie.Need-add-if3 Inv-loop μ-loop
+add-if3 c = search needs
+
+add-bad-line-2 : tie.Need-add-bad-line-2 Inv-loop μ-loop
+add-bad-line-2 c = search needs
+
+bad-line-requires-3 : tie.Need-bad-line-requires-3 Inv-loop μ-loop
+bad-line-requires-3 c κs = search needs
+
+returns-3 : tie.Need-returns-3 Inv-loop μ-loop
+returns-3 c =
+    let a = c .before .before .before .before .before .before .before .before .before .before .before .args in
+    let at = c .before .before .before in
+    refused-at (a .index) (a .text .now) _ _ (c .bad-line3 .ensures)
+    (too-long _ _ _ _ _ _ _ (at .loop .inv) (c .before .before .loop-test .left) (c .before .if3 .taken))
+
+returns-4 : tie.Need-returns-4 Inv-loop μ-loop
+returns-4 c =
+    let a = c .before .before .before .before .before .before .before .before .before .before .args in
+    let at = c .before .before in
+    accepted-as (a .index) (a .text .now) _ _ _ _ _ (c .before .before .before .fresh .ensures)
+    (all-read _ _ _ _ _ _ _ (at .loop .inv) (c .before .loop-test .left) (c .if3 .left))
+
+pub load-spec : {M : Type 1} → statement M
+load-spec =
+    tie.close
+    (tie.spec
+    Inv-loop
+    μ-loop
+    header-in-requires
+    bad-line-requires
+    returns
+    fresh-requires
+    loop-holds
+    mul-key-line
+    add-key-line
+    key-line-requires
+    add-bad-line
+    bad-line-requires-2
+    returns-2
+    slice-aggregate-put-key
+    put-key-requires
+    add-i
+    loop-less
+    loop-again
+    mul-if3
+    add-if3
+    add-bad-line-2
+    bad-line-requires-3
+    returns-3
+    returns-4)

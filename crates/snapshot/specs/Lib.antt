@@ -1,0 +1,4 @@
+pub mod Text
+pub mod Load
+pub mod Calls
+pub mod Parts

@@ -10,7 +10,8 @@ use Rattle.octets.specs.Bytes.{Bytes, be, le, beBytes}
 use Rattle.octets.proofs.Numbers.{beBytes-be, bytes-drop, bytes-at}
 use Rattle.content_key.specs.Id.{reverseBits, idOf}
 use Rattle.content_key.specs.Key.{keyId}
-use Rattle.octets.proofs.Listed.{listed, listed-drop}
+use Rattle.octets.specs.Parts.{bytesAt}
+use Rattle.octets.proofs.Parts.{bytes-at-rest}
 use Rattle.content_key.proofs.Reversal.{reverse-lt, reverse-bytes, bits}
 
 -- two bytes of a number
@@ -50,10 +51,10 @@ id-bytes s a b xs ha hb hx h =
 
 -- the id of a key of nine bytes, byte by byte
 pub id-listing : (key : List ℕ) → Bytes key → length key ≡ 9
-    → keyId key ≡ getD key 2 0 ∷ getD key 1 0 ∷ (map (reverseBits 8) (listed 6 3 key) ++ replicate 23 0 ++ (getD key 0 0 ∷ []))
+    → keyId key ≡ getD key 2 0 ∷ getD key 1 0 ∷ (map (reverseBits 8) (bytesAt 6 3 key) ++ replicate 23 0 ++ (getD key 0 0 ∷ []))
 unfolding le
 id-listing key h n =
-    let rest : listed 6 3 key ≡ drop 3 key = listed-drop 6 3 key (omega arith) in
-    ap (λ (l : List ℕ). idOf (getD key 0 0) (le l)) (sym (listed-drop 8 1 key (omega arith)))
-    ∙ id-bytes (getD key 0 0) (getD key 1 0) (getD key 2 0) (listed 6 3 key) (bytes-at key h 1) (bytes-at key h 2)
+    let rest : bytesAt 6 3 key ≡ drop 3 key = bytes-at-rest 6 3 key (omega arith) in
+    ap (λ (l : List ℕ). idOf (getD key 0 0) (le l)) (sym (bytes-at-rest 8 1 key (omega arith)))
+    ∙ id-bytes (getD key 0 0) (getD key 1 0) (getD key 2 0) (bytesAt 6 3 key) (bytes-at key h 1) (bytes-at key h 2)
     (subst⁻¹ Bytes rest (bytes-drop 3 key h)) refl

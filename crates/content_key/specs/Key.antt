@@ -6,8 +6,8 @@ use mathlib.Core.Bool.{Bool, cond}
 use mathlib.Core.List.{List}
 use lib.Dec.{leb, eqb}
 use lib.ListN.{length, getD, drop}
-use Rattle.refusal.specs.Number.{numberOf}
-use Rattle.refusal.specs.Outcome.{Outcome, given, refused, mapOutcome}
+use Rattle.refusal.specs.Says.{saysOf}
+use Rattle.refusal.specs.Outcome.{Outcome, given, refusal, refused, mapOutcome}
 use Rattle.octets.specs.Bytes.{Bytes, le}
 use Rattle.distance.specs.Distance.{withinOf}
 use Rattle.content_key.specs.Id.{idOf}
@@ -42,4 +42,4 @@ interestedIn node radius bytes = mapOutcome (λ (key : List ℕ). withinOf node 
 abbrev pub interestOf : Interest → Outcome Bool
 interestOf Yes = given mathlib.Core.Bool.true
 interestOf No = given mathlib.Core.Bool.false
-interestOf (Refused why) = refused (numberOf why)
+interestOf (Refused why) = refusal (saysOf why)

@@ -3,8 +3,7 @@
 use mathlib.Core.Path.{_≡_, refl, sym, ap, _∙_}
 use mathlib.Core.Bool.{Bool, true, false, cond}
 use mathlib.Core.List.{List, _∷_, _++_}
-use Rattle.refusal.specs.Number.{numberOf}
-use Rattle.refusal.specs.declared.Refusal.the-variants.{BadIndex}
+use Rattle.refusal.specs.Says.{only}
 use Rattle.refusal.specs.declared.Checked.{Checked}
 use Rattle.refusal.specs.declared.Checked.the-variants.{Accepted, Refused}
 use Rattle.runs.specs.Views.{View, Call, Answer, refused, stored, evicted, removed, reloaded}
@@ -28,12 +27,12 @@ use Rattle.demands.specs.Answered.{viewed, storeSays, checkSays, Answere
 
 -- a store call: the view to go on with, and what is said
 abbrev storeDoes : stores.Given → View box × Answer box
-storeDoes (stores.back n index) = (viewed index, refused n)
+storeDoes (stores.back says index) = (viewed index, refused says)
 storeDoes (stores.now v) = (grouped v, stored)
 storeDoes (stores.without key v) = (grouped v, evicted key)
 
 store-by : (index : KeyIndex) (s : Storing) → afterStore (viewed index) s ≡ storeDoes (stores.givenBy index s)
-store-by index (Storing.refused n) = refl
+store-by index (Storing.refused says) = refl
 store-by index (Storing.stored v) = refl
 store-by index (Storing.evicted key v) = refl
 
@@ -44,11 +43,11 @@ store-said r (Stored.Refused why) = refl
 
 -- a remove call
 abbrev removeDoes : removes.Given → View box × Answer box
-removeDoes (removes.back n index) = (viewed index, refused n)
+removeDoes (removes.back says index) = (viewed index, refused says)
 removeDoes (removes.now v) = (grouped v, removed)
 
 remove-by : (index : KeyIndex) (s : Removing) → afterRemove (viewed index) s ≡ removeDoes (removes.givenBy index s)
-remove-by index (Removing.refused n) = refl
+remove-by index (Removing.refused says) = refl
 remove-by index (Removing.removed v) = refl
 
 remove-said : (index : KeyIndex) (s : Checked) → removeDoes (removes.answeredBy index s) ≡ (viewed index, checkSays removed s)
@@ -57,11 +56,11 @@ remove-said index (Refused why) = refl
 
 -- a reload call
 abbrev reloadDoes : reloads.Reloading → View box × Answer box
-reloadDoes (reloads.back why index) = (viewed index, refused (numberOf why))
+reloadDoes (reloads.back says index) = (viewed index, refused says)
 reloadDoes (reloads.now v) = (grouped v, reloaded)
 
 reload-by : (index : KeyIndex) (t : Bool) (l : Loading)
-    → cond t (afterReload (viewed index) l) (viewed index, refused 0) ≡ reloadDoes (cond t (reloads.reloadedBy index l) (reloads.back BadIndex index))
+    → cond t (afterReload (viewed index) l) (viewed index, refused (only 0)) ≡ reloadDoes (cond t (reloads.reloadedBy index l) (reloads.back (only 0) index))
 reload-by index true (badLine line) = refl
 reload-by index true (loaded v) = refl
 reload-by index false l = refl

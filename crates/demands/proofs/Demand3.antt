@@ -9,6 +9,7 @@ use Rattle.demands.specs.Box.{Owner, ValidOwner}
 use Rattle.demands.specs.Setting.{box}
 use Rattle.demands.specs.Step.{step}
 use Rattle.demands.specs.Plainly.{Plainly}
+use Rattle.demands.proofs.Laws.{laws}
 use Rattle.demands.proofs.Steps.{index}
 use Rattle.demands.proofs.Plainly.{plainly}
 
@@ -28,7 +29,7 @@ use Rattle.demands.proofs.Plainly.{plainly}
 --    when its text is the written form of a shelf, and leaves that shelf: `reloads`.
 -- 9. A refused call leaves the shelf as it was: `refuses`.
 pub demand3 : (o : Owner) → ValidOwner o → (calls : List (Call box)) → Demand3 box step o calls
-demand3 o valid calls = runs.demand3 box index o valid calls
+demand3 o valid calls = runs.demand3 laws index o valid calls
 
 -- parts 1, 3, 4, 5 and 8 once more, in the box's own terms
 pub demand3-plainly : (o : Owner) → ValidOwner o → (calls : List (Call box)) → Plainly o calls

@@ -11,9 +11,10 @@ use Rattle.runs.proofs.Runs.{good-run, good-part}
 use Rattle.runs.proofs.Equal.{same-keys-equal, same-set-iff, held-iff}
 use Rattle.key_index.specs.Good.{awayFrom}
 use Rattle.demands.specs.Box.{Owner, ValidOwner, ValidKey}
-use Rattle.demands.specs.Setting.{same-distance, key-is, box}
+use Rattle.demands.specs.Setting.{box}
 use Rattle.demands.specs.Step.{step}
 use Rattle.demands.specs.Plainly.{Plainly}
+use Rattle.demands.proofs.Laws.{same-distance, key-is, laws}
 use Rattle.demands.proofs.Terms.{equal, good-passes, radius-is, gives-iff}
 use Rattle.demands.proofs.Steps.{index}
 
@@ -27,10 +28,10 @@ presented-valid o (reload text ∷ cs) k f = ⊎-elim absurd (presented-valid o 
 module _ (o : Owner) (valid : ValidOwner o) (calls : List (Call box)) where
   module _ {v w : View box} {cs : List (Call box)} {told : List (Answer box)} (part : Part box step o calls v cs w told) where
     good-start : Good box v
-    good-start = good-part box index valid part
+    good-start = good-part laws index valid part
 
     good-end : Good box w
-    good-end = subst (λ (x : View box). Good box x) (sym (part .ends)) (good-run box index v cs good-start)
+    good-end = subst (λ (x : View box). Good box x) (sym (part .ends)) (good-run laws index v cs good-start)
 
     candidate-valid : (k : List ℕ) → Candidate box v cs k → ValidKey k
     candidate-valid k c = ⊎-elim (good-start .validKeys k) (presented-valid (v .owner) cs k) c

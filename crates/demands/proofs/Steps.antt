@@ -5,6 +5,7 @@ use mathlib.Core.Path.{_≡_, refl, sym, ap, subst, _∙_}
 use mathlib.Core.Bool.{Bool, true, false, cond, true≢false}
 use mathlib.Core.List.{List}
 use mathlib.Core.Option.{none, some}
+use Rattle.refusal.specs.Says.{only}
 use Rattle.refusal.specs.Outcome.{Outcome}
 use Rattle.octets.proofs.Equal.{member-holds}
 use Rattle.content_key.specs.Key.{keyOf}
@@ -25,9 +26,10 @@ use Rattle.key_remove.proofs.Cases.{remove-no-key, remove-absent, remove-held}
 use Rattle.key_remove.proofs.Without.{without-split}
 use Rattle.snapshot.specs.Load.{Loading, badLine, loaded, loadOf}
 use Rattle.snapshot.proofs.RoundTrip.{loaded-written}
-use Rattle.demands.specs.Box.{Raw, grouped, spread, readOf, viewIn}
+use Rattle.demands.specs.Box.{Raw, grouped, spread, viewIn}
 use Rattle.demands.specs.Setting.{box}
 use Rattle.demands.specs.Step.{afterStore, afterRemove, afterReload, step}
+use Rattle.demands.proofs.Laws.{laws}
 use Rattle.demands.proofs.Terms.{equal, admitted-iff, good-passes, passes-good, good-bytes, radius-is}
 
 -- the view and the answer are what the call does
@@ -53,15 +55,15 @@ module _ (v : View box) (g : Good box v) where
     store-case : {s : Storing} → Stores 240 (spread v) (raw .bytes) content s
         → Does v (store raw content) (afterStore v s)
     store-case (case.bad h) = absurd (true≢false (sym (good-passes v g) ∙ h))
-    store-case (case.no-length h l) = refusing (noKey (ap readOf (key-length (raw .bytes) l)))
-    store-case (case.no-selector h l s) = refusing (noKey (ap readOf (key-selector (raw .bytes) l s)))
+    store-case (case.no-length h l) = refusing (noKey (key-length (raw .bytes) l))
+    store-case (case.no-selector h l s) = refusing (noKey (key-selector (raw .bytes) l s))
     store-case (case.no-content h l s t) =
-        refusing (unfit (ap readOf (key-given (raw .bytes) l s)) (ap (λ (b : Bool). cond b none (some 9)) t))
+        refusing (unfit (key-given (raw .bytes) l s) (ap (λ (b : Bool). cond b none (some (only 9))) t))
     store-case (case.held a m) = refusing (held (asked a) m)
     store-case (case.beyond a f h) = refusing (beyond (asked a) (new f) (omega (arith, radius-is v)))
-    store-case (case.room a f h w) = storing (taken a f (omega (arith, radius-room box v h))) h
+    store-case (case.room a f h w) = storing (taken a f (omega (arith, radius-room laws v h))) h
     store-case (case.full a f h front e w) =
-        evicting-offer box g (taken a f (omega (arith, radius-full box v front (lastOf (v .keys)) (omega arith) e))) front (lastOf (v .keys)) h e
+        evicting-offer laws g (taken a f (omega (arith, radius-full laws v front (lastOf (v .keys)) (omega arith) e))) front (lastOf (v .keys)) h e
 
     store-done : Does v (store raw content) (step v (store raw content))
     store-done = store-case (store-cases 240 (spread v) (raw .bytes) content (omega arith) (good-bytes v g) (raw .each))
@@ -77,23 +79,20 @@ module _ (v : View box) (g : Good box v) where
         let s = without-split key (v .keys) h in
         subst After (sym (remove-held 240 (spread v) (raw .bytes) (good-passes v g) (sym e) h))
         (subst (λ (l : List (List ℕ)). After (Removing.removed (withKeys (spread v) l))) (sym (s .rest))
-        (removing (s .before) (s .after) (ap readOf e) (s .whole)))
+        (removing (s .before) (s .after) e (s .whole)))
     held-case key e false h =
         subst After (sym (remove-absent 240 (spread v) (raw .bytes) (good-passes v g) (sym e) h))
-        (refusing (absent (ap readOf e) (λ m. true≢false (sym (member-holds key (v .keys) m) ∙ h))))
+        (refusing (absent e (λ m. true≢false (sym (member-holds key (v .keys) m) ∙ h))))
 
     remove-case : (o : Outcome (List ℕ)) → keyOf (raw .bytes) ≡ o → After (removeOf 240 (spread v) (raw .bytes))
     remove-case (Outcome.given key) e = held-case key e (isHeld key (spread v)) refl
-    remove-case (Outcome.refused n) e =
-        subst After (sym (remove-no-key 240 (spread v) (raw .bytes) (good-passes v g) (sym e))) (refusing (noKeyOut (ap readOf e)))
+    remove-case (Outcome.refusal says) e =
+        subst After (sym (remove-no-key 240 (spread v) (raw .bytes) (good-passes v g) (sym e))) (refusing (noKeyOut e))
 
   -- and each case of reloading
   module _ (text : List ℕ) where
     load-case : (l : Loading) → loadOf 240 text ≡ l → Does v (reload text) (afterReload v l)
-    load-case (badLine line) e = refusing (badText (λ w h. none-given w (sym (ap viewIn e) ∙ h .0)))
-      where
-        none-given : (w : View box) → none ≡ some w → ⊥
-        none-given w f = let z : _≡_ {A = ℕ} 0 1 = cc in omega arith
+    load-case (badLine line) e = refusing (badText (ap viewIn e))
     load-case (loaded w) e =
         let l = loaded-written 240 text w e .1 in
         reloading (ap viewIn e, passes-good (grouped w) (l .0) (l .1))

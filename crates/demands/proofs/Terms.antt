@@ -11,6 +11,8 @@ use mathlib.Core.Logic.{_↔_}
 use mathlib.Core.List.{List, [], _∷_, List·Memᴰ·head as here, List·Memᴰ·tail as there}
 use lib.ListN.{length}
 use Rattle.octets.specs.Bytes.{be}
+use Rattle.refusal.specs.Says.{Said, only}
+use Rattle.refusal.specs.Outcome.{given}
 use Rattle.content_key.specs.Key.{selectorOf, keyOf}
 use Rattle.content_key.proofs.Keys.{key-given}
 use Rattle.rlp.specs.Content.{acceptable}
@@ -26,8 +28,9 @@ use Rattle.key_store.proofs.Facts.{OfBytes, sorted-near, near-sorted, last-apar
 use Rattle.snapshot.specs.Text.{snapshotOf}
 use Rattle.snapshot.specs.Load.{Loading, badLine, loaded, loadOf}
 use Rattle.snapshot.proofs.RoundTrip.{Shaped, loaded-written, accepted-iff}
-use Rattle.demands.specs.Box.{Owner, ValidKey, Raw, grouped, spread, readOf, viewIn}
-use Rattle.demands.specs.Setting.{key-is, box}
+use Rattle.demands.specs.Box.{Owner, ValidKey, Raw, grouped, spread, viewIn}
+use Rattle.demands.specs.Setting.{box}
+use Rattle.demands.proofs.Laws.{key-is, laws}
 
 -- a fact of each key, from one of each that is held
 each-of : (P : List ℕ → Type 0) (ks : List (List ℕ)) → ((k : List ℕ) → k among ks → P k) → Each P ks
@@ -43,7 +46,7 @@ pub admitted-iff : (o : Owner) (raw : Raw) (content k : List ℕ)
     → Admitted box o raw content k ↔ ((raw .bytes ≡ k) × (ValidKey k × (acceptable content ≡ true)))
 admitted-iff o raw content k = (to, from)
   where
-    passed : (t : Bool) → cond {A = Option ℕ} t none (some 9) ≡ none → t ≡ true
+    passed : (t : Bool) → cond {A = Option Said} t none (some (only 9)) ≡ none → t ≡ true
     passed true e = refl
     passed false e = let z : _≡_ {A = ℕ} 0 1 = cc in absurd (omega arith)
 
@@ -54,8 +57,8 @@ admitted-iff o raw content k = (to, from)
     from h =
         let valid = h .1 .0 in
         record {
-          presented = ap readOf (ap keyOf (h .0) ∙ key-given k (valid .nine .size) (valid .selector));
-          acceptable = ap (λ (t : Bool). cond t none (some 9)) (h .1 .1);
+          presented = ap keyOf (h .0) ∙ key-given k (valid .nine .size) (valid .selector);
+          acceptable = ap (λ (t : Bool). cond t none (some (only 9))) (h .1 .1);
         }
 
 module _ (v : View box) where
@@ -106,10 +109,10 @@ module _ (v : View box) where
   radius-is = by (decLt (length (v .keys)) 240)
     where
       by : Dec (length (v .keys) < 240) → radius box v ≡ be (radiusOf 240 (spread v))
-      by (yes h) = radius-room box v h ∙ sym (ap be (reach-room 240 (spread v) h))
+      by (yes h) = radius-room laws v h ∙ sym (ap be (reach-room 240 (spread v) h))
       by (no h) =
           let s = last-apart (v .keys) (omega arith) in
-          radius-full box v (s .0) (lastOf (v .keys)) (omega arith) (s .1) ∙ sym (ap be (reach-full 240 (spread v) (omega arith)))
+          radius-full laws v (s .0) (lastOf (v .keys)) (omega arith) (s .1) ∙ sym (ap be (reach-full 240 (spread v) (omega arith)))
 
 -- a text gives a view exactly when it is the saved form of that view, and the view keeps the rules
 pub gives-iff : (text : List ℕ) (u : View box) → ((text ≡ snapshotOf (spread u)) × Good box u) ↔ Gives box text u
@@ -119,7 +122,7 @@ gives-iff text u = (to, λ h. (from (loadOf 240 text) refl (h .0), h .1))
     to h =
         (ap viewIn (accepted-iff 240 text (spread u) (omega arith) .1 (sym (h .0), (good-shaped u (h .1), good-passes u (h .1)))), h .1)
 
-    from : (l : Loading) → loadOf 240 text ≡ l → viewIn l ≡ some u → text ≡ snapshotOf (spread u)
+    from : (l : Loading) → loadOf 240 text ≡ l → viewIn l ≡ given u → text ≡ snapshotOf (spread u)
     from (badLine line) e f = let z : _≡_ {A = ℕ} 0 1 = cc in absurd (omega arith)
     from (loaded w) e f =
         let same : grouped w ≡ u = cc in

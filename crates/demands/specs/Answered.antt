@@ -2,7 +2,7 @@
 use Prim.Native.Nat.{ℕ}
 use mathlib.Core.Path.{_≡_}
 use mathlib.Core.List.{List, [], _∷_}
-use Rattle.refusal.specs.Number.{numberOf}
+use Rattle.refusal.specs.Says.{saysOf}
 use Rattle.refusal.specs.declared.Checked.{Checked}
 use Rattle.refusal.specs.declared.Checked.the-variants.{Accepted, Refused}
 use Rattle.runs.specs.Views.{View, Call, store, remove, reload, Answer, refused, stored, evicted, removed, reloaded}
@@ -26,12 +26,12 @@ viewed index = grouped (view index)
 abbrev pub storeSays : List ℕ → Stored → Answer box
 storeSays key Stored.Kept = stored
 storeSays key Stored.Evicting = evicted key
-storeSays key (Stored.Refused why) = refused (numberOf why)
+storeSays key (Stored.Refused why) = refused (saysOf why)
 
 -- what an answer of `remove` or `reload` says, given the word for accepted
 abbrev pub checkSays : Answer box → Checked → Answer box
 checkSays word Accepted = word
-checkSays word (Refused why) = refused (numberOf why)
+checkSays word (Refused why) = refused (saysOf why)
 
 -- index, call, the index in the answer, what the answer says: the answer meets the contract of the call
 pub data Answered (index : KeyIndex) : Call box → KeyIndex → Answer box → Type 0 where

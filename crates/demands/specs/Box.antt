@@ -5,11 +5,12 @@ use mathlib.Core.Bool.{cond}
 use mathlib.Core.List.{List}
 use mathlib.Core.Option.{Option, none, some}
 use lib.ListN.{length}
-use Rattle.refusal.specs.Outcome.{Outcome}
+use Rattle.refusal.specs.Says.{Said, only, atLine}
+use Rattle.refusal.specs.Outcome.{Outcome, given, refusal}
 use Rattle.octets.specs.Bytes.{Bytes}
 use Rattle.content_key.specs.Key.{selectorOf, keyOf}
 use Rattle.rlp.specs.Content.{acceptable}
-use Rattle.runs.specs.Setting.{ViewOf, Read, value, refusal}
+use Rattle.runs.specs.Setting.{ViewOf}
 use Rattle.key_index.specs.View.{View}
 use Rattle.key_index.proofs.Chunks.{NineBytes}
 use Rattle.snapshot.specs.Load.{Loading, badLine, loaded, loadOf}
@@ -44,21 +45,17 @@ abbrev pub spread : ViewOf Owner (List ℕ) → View
 spread v = record { node = v .owner .node; cap = v .owner .cap; keys = v .keys }
 
 -- the key that bytes are, or 7 or 8
-abbrev pub readOf : Outcome (List ℕ) → Read (List ℕ)
-readOf (Outcome.given key) = value key
-readOf (Outcome.refused n) = refusal n
-
-abbrev pub keyFrom : Raw → Read (List ℕ)
-keyFrom raw = readOf (keyOf (raw .bytes))
+abbrev pub keyFrom : Raw → Outcome (List ℕ)
+keyFrom raw = keyOf (raw .bytes)
 
 -- 9 against content that is not acceptable
-abbrev pub faultOf : List ℕ → Option ℕ
-faultOf content = cond (acceptable content) none (some 9)
+abbrev pub faultOf : List ℕ → Option Said
+faultOf content = cond (acceptable content) none (some (only 9))
 
--- the view that a saved text gives, if any
-abbrev pub viewIn : Loading → Option (ViewOf Owner (List ℕ))
-viewIn (badLine line) = none
-viewIn (loaded v) = some (grouped v)
+-- the view that a saved text gives, or 14 with its line
+abbrev pub viewIn : Loading → Outcome (ViewOf Owner (List ℕ))
+viewIn (badLine line) = refusal (atLine 14 line)
+viewIn (loaded v) = given (grouped v)
 
-abbrev pub textFrom : List ℕ → Option (ViewOf Owner (List ℕ))
+abbrev pub textFrom : List ℕ → Outcome (ViewOf Owner (List ℕ))
 textFrom text = viewIn (loadOf 240 text)

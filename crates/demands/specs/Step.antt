@@ -1,5 +1,6 @@
 -- One call of the box: storing, removing and reloading at a limit of 240 keys, on views. A refused call leaves the view as it was.
 use mathlib.Core.Bool.{cond}
+use Rattle.refusal.specs.Says.{only, atLine}
 use Rattle.runs.specs.Views.{View, Answer, store, remove, reload, refused, stored, evicted, removed, reloaded}
 use Rattle.runs.specs.Runs.{Step}
 use Rattle.key_index.specs.Good.{good}
@@ -10,19 +11,19 @@ use Rattle.demands.specs.Box.{grouped, spread}
 use Rattle.demands.specs.Setting.{box}
 
 abbrev pub afterStore : View box → Storing → View box × Answer box
-afterStore v (Storing.refused n) = (v, refused n)
+afterStore v (Storing.refused says) = (v, refused says)
 afterStore v (Storing.stored w) = (grouped w, stored)
 afterStore v (Storing.evicted key w) = (grouped w, evicted key)
 
 abbrev pub afterRemove : View box → Removing → View box × Answer box
-afterRemove v (Removing.refused n) = (v, refused n)
+afterRemove v (Removing.refused says) = (v, refused says)
 afterRemove v (Removing.removed w) = (grouped w, removed)
 
 abbrev pub afterReload : View box → Loading → View box × Answer box
-afterReload v (badLine line) = (v, refused 14)
+afterReload v (badLine line) = (v, refused (atLine 14 line))
 afterReload v (loaded w) = (grouped w, reloaded)
 
 abbrev pub step : Step box
 step v (store raw content) = afterStore v (storeOf 240 (spread v) (raw .bytes) content)
 step v (remove raw) = afterRemove v (removeOf 240 (spread v) (raw .bytes))
-step v (reload text) = cond (good 240 (spread v)) (afterReload v (loadOf 240 text)) (v, refused 0)
+step v (reload text) = cond (good 240 (spread v)) (afterReload v (loadOf 240 text)) (v, refused (only 0))

@@ -13,7 +13,9 @@ use lib.Seq.{drop-cons, take-length, paste, paste-suc}
 use lib.Dec.{leb}
 use borrow.Author.Tests.{le-leb, lt-leb, leb-true}
 use Rattle.hex.specs.Digits.{digitOf, valueOf, textOf, bytesOf, isDigit, numberOf, allDigits}
-use Rattle.hex.specs.Buffer.{hasRoom, encodedTo, decodedTo, decodedOf, filled, filledOf}
+use Rattle.octets.specs.Buffer.{hasRoom}
+use Rattle.octets.proofs.Buffers.{too-long, fits, room-ends, not-placed, placed-all}
+use Rattle.hex.specs.Buffer.{encodedTo, decodedTo, decodedOf, filled, filledOf}
 use Rattle.hex.specs.declared.Decoded.the-variants.{Bytes, NotHex, NoRoom}
 use Rattle.hex.specs.declared.Digit.the-variants.{Value, Other}
 use Rattle.hex.proofs.Texts.{length-text, pairsOf}
@@ -99,37 +101,21 @@ put-byte d text i small room out before h l of-h of-l =
 -- where the text has no room, the answer is false and the buffer is as it was
 pub refused : (d : List ℕ) (at : ℕ) (bs : List ℕ) → hasRoom d at (textOf bs) ≡ false
     → (false ≡ hasRoom d at (textOf bs)) × (d ≡ encodedTo bs d at)
-refused d at bs e =
-    (sym e, sym (ap (λ (b : Bool). cond b (take at d ++ textOf bs ++ drop (at + length (textOf bs)) d) d) e))
+refused d at bs e = (sym e, not-placed d at (textOf bs) e)
 
 -- where the text has room, the answer is true and the buffer has all of the text
-pub accepted : (d : List ℕ) (at : ℕ) (bs : List ℕ) (i : ℕ) → i ≡ length bs → hasRoom d at (textOf bs) ≡ true
+pub accepted : (d : List ℕ) (at : ℕ) (bs : List ℕ) (i : ℕ) → i ≡ length bs → at + 2 * length bs ≤ length d
     → (true ≡ hasRoom d at (textOf bs)) × (paste d at (textOf bs) (2 * i) ≡ encodedTo bs d at)
-accepted d at bs i last e =
-    let n : 2 * i ≡ length (textOf bs) = omega (arith, length-text bs) in (
-      sym e,
-      ap (paste d at (textOf bs)) n
-          ∙ ap (λ (l : List ℕ). take at d ++ l ++ drop (at + length (textOf bs)) d) (take-length (textOf bs))
-          ∙ sym (ap (λ (b : Bool). cond b (take at d ++ textOf bs ++ drop (at + length (textOf bs)) d) d) e),
+accepted d at bs i last h =
+    let n = length-text bs in (
+      sym (fits d at (textOf bs) (omega arith)),
+      placed-all d at (textOf bs) (2 * i) (omega arith) (omega arith),
     )
 
--- the text starts past the buffer
-pub past-end : (d : List ℕ) (at : ℕ) (bs : List ℕ) → length d < at → hasRoom d at (textOf bs) ≡ false
-past-end d at bs h = simp (lt-leb at (length d) h)
-
 -- the text does not fit behind its start
-pub too-long : (d : List ℕ) (at : ℕ) (bs : List ℕ) → at ≤ length d → (length d - at) / 2 < length bs
+pub no-place : (d : List ℕ) (at : ℕ) (bs : List ℕ) → at ≤ length d → (length d - at) / 2 < length bs
     → hasRoom d at (textOf bs) ≡ false
-too-long d at bs h l =
-    let n : length d - at < length (textOf bs) = omega (arith, length-text bs) in
-    simp (le-leb at (length d) h, lt-leb (length (textOf bs)) (length d - at) n)
-
--- the text fits behind its start
-pub fits : (d : List ℕ) (at : ℕ) (bs : List ℕ) → at + 2 * length bs ≤ length d → hasRoom d at (textOf bs) ≡ true
-fits d at bs h =
-    let n : length (textOf bs) ≤ length d - at = omega (arith, length-text bs) in
-    let m : at ≤ length d = omega arith in
-    simp (le-leb at (length d) m, le-leb (length (textOf bs)) (length d - at) n)
+no-place d at bs h l = too-long d at (textOf bs) h (omega (arith, length-text bs))
 
 -- what a text that stands for nothing answers, and leaves
 pub not-hex : (text d : List ℕ) → bytesOf text ≡ none → (NotHex ≡ decodedOf text d) × (d ≡ filledOf text d)
@@ -158,11 +144,5 @@ put-all text d bs n i all last e h =
     )
 
 -- a text that has room ends within the buffer
-pub room-ends : (d : List ℕ) (at : ℕ) (bs : List ℕ) → hasRoom d at (textOf bs) ≡ true → at + 2 * length bs ≤ length d
-room-ends d at bs e = go (leb at (length d)) refl (leb (length (textOf bs)) (length d - at)) refl e
-  where
-    go : (x : Bool) → leb at (length d) ≡ x → (y : Bool) → leb (length (textOf bs)) (length d - at) ≡ y → (x && y) ≡ true
-        → at + 2 * length bs ≤ length d
-    go true p true q h = omega (arith, leb-true at (length d) p, leb-true (length (textOf bs)) (length d - at) q, length-text bs)
-    go true p false q h = absurd (false≢true h)
-    go false p y q h = absurd (false≢true h)
+pub text-ends : (d : List ℕ) (at : ℕ) (bs : List ℕ) → hasRoom d at (textOf bs) ≡ true → at + 2 * length bs ≤ length d
+text-ends d at bs e = omega (arith, room-ends d at (textOf bs) e, length-text bs)

@@ -3,7 +3,8 @@ ghost use Prim.Native.Nat.{_<_};
 ghost use mathlib.Core.Path.{_≡_};
 ghost use mathlib.Core.Bool.{true};
 ghost use Rattle.hex.specs.Digits.{digitOf, valueOf, textOf, isDigit, numberOf, allDigits};
-ghost use Rattle.hex.specs.Buffer.{hasRoom, encodedTo, decodedOf, filledOf};
+ghost use Rattle.octets.specs.Buffer.{hasRoom};
+ghost use Rattle.hex.specs.Buffer.{encodedTo, decodedOf, filledOf};
 
 // What a character stands for.
 pub enum Digit {

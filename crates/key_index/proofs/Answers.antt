@@ -6,7 +6,8 @@ use mathlib.Core.Bool.{true, false}
 use mathlib.Core.List.{List}
 use lib.ListN.{length, take, drop}
 use borrow.Author.Tests.{lt-ltb, le-ltb}
-use Rattle.refusal.specs.Outcome.{given, refused, mapOutcome}
+use Rattle.refusal.specs.Says.{Said}
+use Rattle.refusal.specs.Outcome.{given, refusal, refused, mapOutcome}
 use Rattle.distance.specs.Distance.{xorOf}
 use Rattle.content_key.specs.Key.{keyOf, keyId}
 use Rattle.key_index.specs.View.{View, chunks, keyAt}
@@ -40,7 +41,7 @@ module _ (limit : ℕ) (v : View) where
   radius-last g h = rw (g, le-ltb (length (v .keys)) limit h)
 
   -- what is no key is refused
-  pub holds-refused : (bytes : List ℕ) {n : ℕ} → good limit v ≡ true → refused n ≡ keyOf bytes → refused n ≡ holdsFor limit v bytes
+  pub holds-refused : (bytes : List ℕ) {says : Said} → good limit v ≡ true → refusal says ≡ keyOf bytes → refusal says ≡ holdsFor limit v bytes
   holds-refused bytes g k = rw g (ap (mapOutcome (λ (key : List ℕ). isHeld key v)) k)
 
   -- a key is looked for

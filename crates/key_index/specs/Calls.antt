@@ -2,8 +2,8 @@
 use Prim.Native.Nat.{ℕ}
 use mathlib.Core.Bool.{Bool, true, false, cond}
 use mathlib.Core.List.{List}
-use Rattle.refusal.specs.Number.{numberOf}
-use Rattle.refusal.specs.Outcome.{Outcome, given, refused, mapOutcome}
+use Rattle.refusal.specs.Says.{saysOf}
+use Rattle.refusal.specs.Outcome.{Outcome, given, refusal, refused, mapOutcome}
 use Rattle.octets.specs.Equal.{sameBytes, holds}
 use Rattle.content_key.specs.Key.{keyOf}
 use Rattle.key_index.specs.View.{View}
@@ -26,4 +26,4 @@ holdsFor limit v bytes =
 abbrev pub holdingOf : Holding → Outcome Bool
 holdingOf Yes = given true
 holdingOf No = given false
-holdingOf (Refused why) = refused (numberOf why)
+holdingOf (Refused why) = refusal (saysOf why)

@@ -10,11 +10,12 @@ use lib.Dec.{ltb, leb, lit≤}
 use lib.ListN.{length, take, drop, replicate, length-append}
 use lib.Seq.{take-all}
 use borrow.Author.Tests.{not-true, not-false, lt-ltb, le-ltb}
-use Rattle.refusal.specs.Outcome.{Outcome, given, refused, mapOutcome}
+use Rattle.refusal.specs.Says.{numberIn}
+use Rattle.refusal.specs.Outcome.{Outcome, given, refusal, refused, mapOutcome}
+use Rattle.octets.proofs.Buffers.{fits}
 use Rattle.hex.specs.Digits.{textOf, bytesOf, allDigits}
 use Rattle.hex.specs.Buffer.{encodedTo, filled, filledOf}
 use Rattle.hex.proofs.Texts.{pairsOf, bytes-of-pairs, no-bytes-odd, no-bytes-other, length-text, length-of-bytes}
-use Rattle.hex.proofs.Passes.{fits}
 use Rattle.content_key.specs.Key.{selectorOf, blockOf, keyOf, keyId, contentIdOf}
 use Rattle.content_key.proofs.Keys.{key-length}
 use Rattle.content_key.proofs.Ids.{id-length}
@@ -97,7 +98,7 @@ pub id-text : (id : List ℕ) → length id ≡ 32 → take 65 (encodedTo id (re
 id-text id h =
     let d : List ℕ = replicate 65 10 in
     let n : length (textOf id) ≡ 64 = omega (arith, length-text id) in
-    let room = fits d 0 id (omega arith) in
+    let room = fits d 0 (textOf id) (omega (arith, length-text id)) in
     ap (take 65)
     (ap (λ (t : Bool). cond t (take 0 d ++ textOf id ++ drop (0 + length (textOf id)) d) d) room
     ∙ ap (λ (k : ℕ). textOf id ++ drop (0 + k) d) n)
@@ -116,9 +117,10 @@ outcome-length : (o : Outcome (List ℕ)) → length (printedOf (mapOutcome keyI
 outcome-length (given key) =
     let id : List ℕ = keyId key in
     omega (arith, length-append (textOf id) (10 ∷ []), length-text id, id-length (selectorOf key) (blockOf key))
-outcome-length (refused n) = let few = go (ltb n 10) in omega arith
+outcome-length (refusal says) = let few = go (ltb (numberIn says) 10) in omega arith
   where
-    go : (t : Bool) → length (cond t ((48 + n) ∷ []) ((48 + n / 10) ∷ (48 + n % 10) ∷ []) ++ (10 ∷ [])) ≤ 3
+    go : (t : Bool)
+        → length (cond t ((48 + numberIn says) ∷ []) ((48 + numberIn says / 10) ∷ (48 + numberIn says % 10) ∷ []) ++ (10 ∷ [])) ≤ 3
     go true = lit≤ tt
     go false = lit≤ tt
 

@@ -4,7 +4,8 @@ use mathlib.Core.Bool.{cond}
 use mathlib.Core.List.{List, [], _∷_, _++_}
 use mathlib.Core.Option.{Option, some, none}
 use lib.Dec.{eqb, ltb}
-use Rattle.refusal.specs.Outcome.{Outcome, given, refused}
+use Rattle.refusal.specs.Says.{numberIn}
+use Rattle.refusal.specs.Outcome.{Outcome, given, refusal, refused}
 use Rattle.hex.specs.Digits.{textOf, bytesOf}
 use Rattle.content_key.specs.Key.{contentIdOf}
 
@@ -15,7 +16,7 @@ decimalOf n = cond (ltb n 10) ((48 + n) ∷ []) ((48 + n / 10) ∷ (48 + n % 10)
 -- the line for an outcome, with its line feed: the id in 64 digits, or `refused`, a space and the number
 abbrev pub printedOf : Outcome (List ℕ) → List ℕ
 printedOf (given id) = textOf id ++ (10 ∷ [])
-printedOf (refused n) = (114 ∷ 101 ∷ 102 ∷ 117 ∷ 115 ∷ 101 ∷ 100 ∷ 32 ∷ []) ++ decimalOf n ++ (10 ∷ [])
+printedOf (refusal says) = (114 ∷ 101 ∷ 102 ∷ 117 ∷ 115 ∷ 101 ∷ 100 ∷ 32 ∷ []) ++ decimalOf (numberIn says) ++ (10 ∷ [])
 
 -- the outcome of a line's text: 15 where it is no hexadecimal, else that of its bytes as a key
 abbrev pub decodedId : Option (List ℕ) → Outcome (List ℕ)

@@ -8,8 +8,8 @@ ghost use mathlib.Core.Bool.{_||_, not};
 ghost use mathlib.Core.List.{List, [], _++_};
 ghost use lib.ListN.{length, take, drop};
 ghost use lib.Seq.{paste};
-ghost use Rattle.refusal.specs.Number.{numberOf};
-ghost use Rattle.refusal.specs.Outcome.{given, refused};
+ghost use Rattle.refusal.specs.Says.{saysOf};
+ghost use Rattle.refusal.specs.Outcome.{given, refusal};
 ghost use Rattle.hex.specs.Digits.{valueOf, isDigit};
 ghost use Rattle.content_key.specs.Key.{contentIdOf};
 ghost use Rattle.key_lines.specs.Lines.{printedOf, lineOf, lineLength, lastOf};
@@ -198,7 +198,7 @@ fn id_line(id: [u8; 32]) -> Printed
 
 // A refusal's line.
 fn refusal_line(why: Refusal) -> Printed
-    ensures { λ r. ⌜ take (r .len) (r .text) ≡ printedOf (refused (numberOf why)) ⌝ }
+    ensures { λ r. ⌜ take (r .len) (r .text) ≡ printedOf (refusal (saysOf why)) ⌝ }
     ensures { λ r. ⌜ r .len ≤ 65 ⌝ }
 {
     let mut text = [b'\n'; 65];

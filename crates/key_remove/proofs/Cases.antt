@@ -3,7 +3,8 @@ use Prim.Native.Nat.{ℕ}
 use mathlib.Core.Path.{_≡_, sym, ap, _∙_}
 use mathlib.Core.Bool.{true, false}
 use mathlib.Core.List.{List}
-use Rattle.refusal.specs.Outcome.{given}
+use Rattle.refusal.specs.Says.{Said, only}
+use Rattle.refusal.specs.Outcome.{given, refusal}
 use Rattle.content_key.specs.Key.{keyOf}
 use Rattle.key_index.specs.View.{View, withKeys}
 use Rattle.key_index.specs.Good.{good}
@@ -12,7 +13,7 @@ use Rattle.key_remove.specs.Remove.{refused, removed, without, keyRemove
 
 module _ (limit : ℕ) (v : View) (bytes : List ℕ) where
   -- a bad index is refused
-  pub remove-bad : good limit v ≡ false → removeOf limit v bytes ≡ refused 0
+  pub remove-bad : good limit v ≡ false → removeOf limit v bytes ≡ refused (only 0)
   unfolding removeOf
   remove-bad g = rw g
 
@@ -21,11 +22,11 @@ module _ (limit : ℕ) (v : View) (bytes : List ℕ) where
   key-cases g = rw g
 
   -- what is no key is refused, by 7 or 8
-  pub remove-no-key : {n : ℕ} → good limit v ≡ true → Rattle.refusal.specs.Outcome.refused n ≡ keyOf bytes → removeOf limit v bytes ≡ refused n
+  pub remove-no-key : {says : Said} → good limit v ≡ true → refusal says ≡ keyOf bytes → removeOf limit v bytes ≡ refused says
   remove-no-key g k = key-cases g ∙ ap (keyRemoveOf v) (sym k)
 
   -- a key that is not held
-  pub remove-absent : {key : List ℕ} → good limit v ≡ true → given key ≡ keyOf bytes → isHeld key v ≡ false → removeOf limit v bytes ≡ refused 12
+  pub remove-absent : {key : List ℕ} → good limit v ≡ true → given key ≡ keyOf bytes → isHeld key v ≡ false → removeOf limit v bytes ≡ refused (only 12)
   remove-absent g k h = key-cases g ∙ ap (keyRemoveOf v) (sym k) ∙ rw h
 
   -- a key that is held

@@ -1,7 +1,7 @@
 -- What an answer of `remove` stands for: a refused call hands back the very index, equal in every byte.
 use Prim.Native.Nat.{ℕ}
 use mathlib.Core.List.{List}
-use Rattle.refusal.specs.Number.{numberOf}
+use Rattle.refusal.specs.Says.{Said, saysOf}
 use Rattle.refusal.specs.declared.Checked.{Checked}
 use Rattle.refusal.specs.declared.Checked.the-variants.{Accepted, Refused}
 use Rattle.key_index.specs.View.{View, view}
@@ -11,16 +11,16 @@ use Rattle.key_remove.specs.declared.RemoveAnswer.{RemoveAnswer}
 
 -- an outcome with the index that a refused call hands back
 pub data Given : Type 0 where
-  back : ℕ → KeyIndex → Given
+  back : Said → KeyIndex → Given
   now : View → Given
 
 abbrev pub givenBy : KeyIndex → Removing → Given
-givenBy index (refused n) = back n index
+givenBy index (refused says) = back says index
 givenBy index (removed v) = now v
 
 abbrev pub answeredBy : KeyIndex → Checked → Given
 answeredBy index Accepted = now (view index)
-answeredBy index (Refused why) = back (numberOf why) index
+answeredBy index (Refused why) = back (saysOf why) index
 
 -- what the answer stands for
 abbrev pub meaningOf : RemoveAnswer → Given

@@ -2,6 +2,7 @@
 use Prim.Native.Nat.{ℕ}
 use mathlib.Core.Bool.{cond}
 use mathlib.Core.List.{List, [], _∷_}
+use Rattle.refusal.specs.Says.{Said, only}
 use Rattle.refusal.specs.Outcome.{Outcome}
 use Rattle.octets.specs.Equal.{sameBytes}
 use Rattle.content_key.specs.Key.{keyOf}
@@ -11,7 +12,7 @@ use Rattle.key_index.specs.Calls.{isHeld}
 
 -- what a remove call comes to
 pub data Removing : Type 0 where
-  refused : ℕ → Removing
+  refused : Said → Removing
   removed : View → Removing
 
 -- the keys without one of them; the others keep their order
@@ -21,8 +22,8 @@ without key (k ∷ ks) = cond (sameBytes key k) ks (k ∷ without key ks)
 
 -- 7 or 8 for what is no key, 12 for a key that is not held
 abbrev pub keyRemoveOf : View → Outcome (List ℕ) → Removing
-keyRemoveOf v (Outcome.given key) = cond (isHeld key v) (removed (withKeys v (without key (v .keys)))) (refused 12)
-keyRemoveOf v (Outcome.refused n) = refused n
+keyRemoveOf v (Outcome.given key) = cond (isHeld key v) (removed (withKeys v (without key (v .keys)))) (refused (only 12))
+keyRemoveOf v (Outcome.refusal says) = refused says
 
 unfoldable pub removeOf : ℕ → View → List ℕ → Removing
-removeOf limit v bytes = cond (good limit v) (keyRemoveOf v (keyOf bytes)) (refused 0)
+removeOf limit v bytes = cond (good limit v) (keyRemoveOf v (keyOf bytes)) (refused (only 0))

@@ -26,7 +26,7 @@ use Rattle.key_store.proofs.Cases.{Fresh, Stores, bad, no-length, no-se
 
 -- the view to go on with
 abbrev pub nextOf : View → Storing → View
-nextOf v (refused n) = v
+nextOf v (refused says) = v
 nextOf v (stored w) = w
 nextOf v (evicted key w) = w
 

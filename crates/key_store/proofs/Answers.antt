@@ -4,6 +4,7 @@ use mathlib.Core.Path.{_≡_, refl, sym, ap, ap₂, _∙_}
 use mathlib.Core.Bool.{Bool, true, false, cond}
 use mathlib.Core.List.{List}
 use lib.Dec.{leb}
+use Rattle.refusal.specs.Says.{Said, only}
 use Rattle.refusal.specs.Outcome.{Outcome}
 use Rattle.octets.specs.Bytes.{be}
 use Rattle.distance.specs.Distance.{xorOf}
@@ -25,18 +26,18 @@ answer-as index r a s h e = (h .0 ∙ ap (givenBy index) e, h .1 ∙ ap evictedO
 -- what comes after the content was examined
 abbrev after : Storing → Outcome (List ℕ) → Storing
 after s (Outcome.given content) = s
-after s (Outcome.refused n) = refused n
+after s (Outcome.refusal says) = refused says
 
-after-cond : (s : Storing) (content : List ℕ) (t : Bool) → after s (cond t (Outcome.given content) (Outcome.refused 9)) ≡ cond t s (refused 9)
+after-cond : (s : Storing) (content : List ℕ) (t : Bool) → after s (cond t (Outcome.given content) (Outcome.refusal (only 9))) ≡ cond t s (refused (only 9))
 after-cond s content true = refl
 after-cond s content false = refl
 
 module _ (limit : ℕ) (v : View) (key : List ℕ) where
-  pub admit-held : isHeld key v ≡ true → refused 11 ≡ admitOf limit v key
+  pub admit-held : isHeld key v ≡ true → refused (only 11) ≡ admitOf limit v key
   unfolding admitOf
   admit-held h = rw h
 
-  pub admit-far : isHeld key v ≡ false → leb (awayFrom (v .node) key) (be (radiusOf limit v)) ≡ false → refused 10 ≡ admitOf limit v key
+  pub admit-far : isHeld key v ≡ false → leb (awayFrom (v .node) key) (be (radiusOf limit v)) ≡ false → refused (only 10) ≡ admitOf limit v key
   unfolding admitOf
   admit-far h w = rw (h, w)
 
@@ -50,7 +51,7 @@ module _ (limit : ℕ) (v : View) (key : List ℕ) where
   admit-put h w = rw (h, w)
 
 module _ (limit : ℕ) (v : View) (bytes content : List ℕ) where
-  pub store-bad : good limit v ≡ false → refused 0 ≡ storeOf limit v bytes content
+  pub store-bad : good limit v ≡ false → refused (only 0) ≡ storeOf limit v bytes content
   unfolding storeOf
   store-bad g = rw g
 
@@ -59,8 +60,8 @@ module _ (limit : ℕ) (v : View) (bytes content : List ℕ) where
   store-read o g k = rw g (ap (keyStoreOf limit v content) k)
 
   -- what is no key
-  pub store-key : (n : ℕ) → good limit v ≡ true → Outcome.refused n ≡ keyOf bytes → refused n ≡ storeOf limit v bytes content
-  store-key n g k = store-read (Outcome.refused n) g k
+  pub store-key : (says : Said) → good limit v ≡ true → Outcome.refusal says ≡ keyOf bytes → refused says ≡ storeOf limit v bytes content
+  store-key says g k = store-read (Outcome.refusal says) g k
 
   -- a key, after its content was examined
   store-after : (key : List ℕ) (o : Outcome (List ℕ)) → good limit v ≡ true → Outcome.given key ≡ keyOf bytes → o ≡ contentOf content
@@ -68,9 +69,9 @@ module _ (limit : ℕ) (v : View) (bytes content : List ℕ) where
   store-after key o g k e =
       ap (after (admitOf limit v key)) e ∙ after-cond (admitOf limit v key) content (acceptable content) ∙ store-read (Outcome.given key) g k
 
-  pub store-content : (key : List ℕ) (n : ℕ) → good limit v ≡ true → Outcome.given key ≡ keyOf bytes → Outcome.refused n ≡ contentOf content
-      → refused n ≡ storeOf limit v bytes content
-  store-content key n g k e = store-after key (Outcome.refused n) g k e
+  pub store-content : (key : List ℕ) (says : Said) → good limit v ≡ true → Outcome.given key ≡ keyOf bytes → Outcome.refusal says ≡ contentOf content
+      → refused says ≡ storeOf limit v bytes content
+  store-content key says g k e = store-after key (Outcome.refusal says) g k e
 
   pub store-admit : (key read : List ℕ) → good limit v ≡ true → Outcome.given key ≡ keyOf bytes → Outcome.given read ≡ contentOf content
       → admitOf limit v key ≡ storeOf limit v bytes content

@@ -8,6 +8,7 @@ use mathlib.Core.List.{List, [], _∷_, _++_}
 use lib.Dec.{leb, ltb, eqb}
 use lib.ListN.{length}
 use borrow.Author.Tests.{eqb-true, eqb-false, leb-true, leb-false, ltb-true, ltb-false}
+use Rattle.refusal.specs.Says.{only}
 use Rattle.refusal.specs.Outcome.{Outcome}
 use Rattle.octets.specs.Bytes.{Bytes, be}
 use Rattle.octets.proofs.Equal.{holds-member, member-holds}
@@ -40,12 +41,12 @@ pub record Fresh (v : View) (key : List ℕ) : Type 0 where
 -- a call and its outcome: each refusal with its reason; stored below the limit; at the limit stored with the last key evicted, which is
 -- farther than the new one
 pub data Stores (limit : ℕ) (v : View) (key content : List ℕ) : Storing → Type 0 where
-  bad : good limit v ≡ false → Stores limit v key content (refused 0)
-  no-length : good limit v ≡ true → ¬ (length key ≡ 9) → Stores limit v key content (refused 7)
-  no-selector : good limit v ≡ true → length key ≡ 9 → 1 < selectorOf key → Stores limit v key content (refused 8)
-  no-content : good limit v ≡ true → length key ≡ 9 → selectorOf key ≤ 1 → acceptable content ≡ false → Stores limit v key content (refused 9)
-  held : Asked limit v key content → key among v .keys → Stores limit v key content (refused 11)
-  beyond : Asked limit v key content → Fresh v key → be (radiusOf limit v) < awayFrom (v .node) key → Stores limit v key content (refused 10)
+  bad : good limit v ≡ false → Stores limit v key content (refused (only 0))
+  no-length : good limit v ≡ true → ¬ (length key ≡ 9) → Stores limit v key content (refused (only 7))
+  no-selector : good limit v ≡ true → length key ≡ 9 → 1 < selectorOf key → Stores limit v key content (refused (only 8))
+  no-content : good limit v ≡ true → length key ≡ 9 → selectorOf key ≤ 1 → acceptable content ≡ false → Stores limit v key content (refused (only 9))
+  held : Asked limit v key content → key among v .keys → Stores limit v key content (refused (only 11))
+  beyond : Asked limit v key content → Fresh v key → be (radiusOf limit v) < awayFrom (v .node) key → Stores limit v key content (refused (only 10))
   room : Asked limit v key content → Fresh v key → length (v .keys) < limit → awayFrom (v .node) key ≤ be (v .cap)
       → Stores limit v key content (stored (withKeys v (insert (awayFrom (v .node)) key (v .keys))))
   full : Asked limit v key content → Fresh v key → length (v .keys) ≡ limit → (front : List (List ℕ)) → v .keys ≡ front ++ lastOf (v .keys) ∷ []
@@ -89,18 +90,18 @@ module _ (limit : ℕ) (v : View) (key content : List ℕ) (some : 0 < limit) (o
       read : selectorOf key ≤ 1 → (t : Bool) → acceptable content ≡ t → Stores limit v key content (storeOf limit v key content)
       read s true e =
           subst (Stores limit v key content)
-          (store-admit limit v key content key content g (sym (key-given key l s)) (sym (ap (λ (t : Bool). cond t (Outcome.given content) (Outcome.refused 9)) e)))
+          (store-admit limit v key content key content g (sym (key-given key l s)) (sym (ap (λ (t : Bool). cond t (Outcome.given content) (Outcome.refusal (only 9))) e)))
           (admit-cases (record { kept = g; size = l; selector = s; listed = e }))
       read s false e =
           subst (Stores limit v key content)
-          (store-content limit v key content key 9 g (sym (key-given key l s)) (sym (ap (λ (t : Bool). cond t (Outcome.given content) (Outcome.refused 9)) e)))
+          (store-content limit v key content key (only 9) g (sym (key-given key l s)) (sym (ap (λ (t : Bool). cond t (Outcome.given content) (Outcome.refusal (only 9))) e)))
           (no-content g l s e)
 
       go : (t : Bool) → leb (selectorOf key) 1 ≡ t → Stores limit v key content (storeOf limit v key content)
       go true e = read (leb-true (selectorOf key) 1 e) (acceptable content) refl
       go false e =
           let s = leb-false (selectorOf key) 1 e in
-          subst (Stores limit v key content) (store-key limit v key content 8 g (sym (key-selector key l s))) (no-selector g l s)
+          subst (Stores limit v key content) (store-key limit v key content (only 8) g (sym (key-selector key l s))) (no-selector g l s)
 
   -- every call is one of the cases
   pub store-cases : Stores limit v key content (storeOf limit v key content)
@@ -110,7 +111,7 @@ module _ (limit : ℕ) (v : View) (key content : List ℕ) (some : 0 < limit) (o
       sized g true e = key-cases g (eqb-true (length key) 9 e)
       sized g false e =
           let l = eqb-false (length key) 9 e in
-          subst (Stores limit v key content) (store-key limit v key content 7 g (sym (key-length key l))) (no-length g l)
+          subst (Stores limit v key content) (store-key limit v key content (only 7) g (sym (key-length key l))) (no-length g l)
 
       go : (t : Bool) → good limit v ≡ t → Stores limit v key content (storeOf limit v key content)
       go true g = sized g (eqb (length key) 9) refl

@@ -3,7 +3,7 @@
 use Prim.Native.Nat.{ℕ}
 use mathlib.Core.List.{List}
 use lib.ListN.{replicate}
-use Rattle.refusal.specs.Number.{numberOf}
+use Rattle.refusal.specs.Says.{Said, saysOf}
 use Rattle.key_index.specs.View.{View, view}
 use Rattle.key_index.specs.declared.KeyIndex.{KeyIndex}
 use Rattle.key_store.specs.Store.{Storing, refused, stored, evicted, storeOf}
@@ -13,19 +13,19 @@ use Rattle.key_store.specs.declared.StoreAnswer.{StoreAnswer}
 
 -- an outcome with the index that a refused call hands back
 pub data Given : Type 0 where
-  back : ℕ → KeyIndex → Given
+  back : Said → KeyIndex → Given
   now : View → Given
   without : List ℕ → View → Given
 
 abbrev pub givenBy : KeyIndex → Storing → Given
-givenBy index (refused n) = back n index
+givenBy index (refused says) = back says index
 givenBy index (stored v) = now v
 givenBy index (evicted key v) = without key v
 
 abbrev pub answeredBy : StoreAnswer → Stored → Given
 answeredBy r Kept = now (view (r .index))
 answeredBy r Evicting = without (r .evicted) (view (r .index))
-answeredBy r (Refused why) = back (numberOf why) (r .index)
+answeredBy r (Refused why) = back (saysOf why) (r .index)
 
 -- what the answer stands for
 abbrev pub meaningOf : StoreAnswer → Given
@@ -37,6 +37,6 @@ storeFor limit index bytes content = givenBy index (storeOf limit (view index) b
 
 -- the evicted key beside the answer: zeros where none
 abbrev pub evictedOr0 : Storing → List ℕ
-evictedOr0 (refused n) = replicate 9 0
+evictedOr0 (refused says) = replicate 9 0
 evictedOr0 (stored v) = replicate 9 0
 evictedOr0 (evicted key v) = key

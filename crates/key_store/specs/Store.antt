@@ -5,6 +5,7 @@ use mathlib.Core.Bool.{Bool, cond}
 use mathlib.Core.List.{List}
 use lib.Dec.{leb, ltb}
 use lib.ListN.{length}
+use Rattle.refusal.specs.Says.{Said, only}
 use Rattle.refusal.specs.Outcome.{Outcome}
 use Rattle.octets.specs.Bytes.{be}
 use Rattle.content_key.specs.Key.{keyOf}
@@ -14,9 +15,9 @@ use Rattle.key_index.specs.View.{View, withKeys}
 use Rattle.key_index.specs.Good.{awayFrom, good, lastOf, radiusOf}
 use Rattle.key_index.specs.Calls.{isHeld}
 
--- what a store call comes to: refused with a number, stored, or stored with a key evicted ("kept" and "turned out" in document 01)
+-- what a store call comes to: refused, stored, or stored with a key evicted ("kept" and "turned out" in document 01)
 pub data Storing : Type 0 where
-  refused : ℕ → Storing
+  refused : Said → Storing
   stored : View → Storing
   evicted : List ℕ → View → Storing
 
@@ -30,15 +31,15 @@ putOf limit v key =
 -- 11 where the key is held, 10 where its distance is over the announced radius
 unfoldable pub admitOf : ℕ → View → List ℕ → Storing
 admitOf limit v key =
-    cond (isHeld key v) (refused 11)
+    cond (isHeld key v) (refused (only 11))
     (cond (leb (awayFrom (v .node) key) (be (radiusOf limit v))) (putOf limit v key)
-    (refused 10))
+    (refused (only 10)))
 
 -- 7 or 8 for what is no key, 9 for content that is not acceptable
 abbrev pub keyStoreOf : ℕ → View → List ℕ → Outcome (List ℕ) → Storing
-keyStoreOf limit v content (Outcome.given key) = cond (acceptable content) (admitOf limit v key) (refused 9)
-keyStoreOf limit v content (Outcome.refused n) = refused n
+keyStoreOf limit v content (Outcome.given key) = cond (acceptable content) (admitOf limit v key) (refused (only 9))
+keyStoreOf limit v content (Outcome.refusal says) = refused says
 
 -- any bytes as a key, with any bytes as its content
 unfoldable pub storeOf : ℕ → View → List ℕ → List ℕ → Storing
-storeOf limit v bytes content = cond (good limit v) (keyStoreOf limit v content (keyOf bytes)) (refused 0)
+storeOf limit v bytes content = cond (good limit v) (keyStoreOf limit v content (keyOf bytes)) (refused (only 0))

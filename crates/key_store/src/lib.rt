@@ -5,7 +5,7 @@ ghost use mathlib.Core.Bool.{true, false};
 ghost use mathlib.Core.List.{_++_};
 ghost use lib.Dec.{leb};
 ghost use lib.ListN.{length, take, drop, replicate};
-ghost use Rattle.refusal.specs.Number.{numberOf};
+ghost use Rattle.refusal.specs.Says.{saysOf};
 ghost use Rattle.octets.specs.Bytes.{be};
 ghost use Rattle.distance.specs.Distance.{xorOf};
 ghost use Rattle.content_key.specs.Key.{keyId};
@@ -175,7 +175,7 @@ fn written(keys: [u8; 2160], start: usize, key: [u8; 9]) -> [u8; 2160]
 
 // A refused call: the very index.
 fn refused(index: KeyIndex, why: Refusal) -> StoreAnswer
-    ensures { λ r. ⌜ meaningOf r ≡ back (numberOf why) index ⌝ }
+    ensures { λ r. ⌜ meaningOf r ≡ back (saysOf why) index ⌝ }
     ensures { λ r. ⌜ r .evicted ≡ replicate 9 0 ⌝ }
 {
     StoreAnswer {

@@ -4,8 +4,8 @@ use mathlib.Core.Path.{_≡_}
 use mathlib.Core.Bool.{Bool, true, false}
 use mathlib.Core.List.{List, [], _∷_, _++_}
 use lib.ListN.{length, getD, take, drop, replicate}
-use Rattle.refusal.specs.Number.{numberOf}
-use Rattle.refusal.specs.Outcome.{Outcome, given, refused}
+use Rattle.refusal.specs.Says.{saysOf}
+use Rattle.refusal.specs.Outcome.{Outcome, given, refusal}
 use Rattle.message.specs.Values.{Message, ping, pong, findNode, foundNodes, findContent, foundContent, offer, accept, store}
 use Rattle.message.specs.declared.Kind.{Kind}
 use Rattle.message.specs.declared.Kind.the-variants.{Ping, Pong, FindNode, FoundNodes, FindContent, FoundContent, Offer, Accept, Store, Refused}
@@ -32,7 +32,7 @@ valuesOf s a FoundContent =
 valuesOf s a Offer = given (offer (partAt s (a .start) (a .len)))
 valuesOf s a Accept = given (accept (partAt s (a .start) (a .len)))
 valuesOf s a Store = given (store (a .connection) (partAt s (a .start) (a .len)))
-valuesOf s a (Refused why) = refused (numberOf why)
+valuesOf s a (Refused why) = refusal (saysOf why)
 
 abbrev pub readingOf : List ℕ → Reading → Outcome Message
 readingOf s a = valuesOf s a (a .kind)

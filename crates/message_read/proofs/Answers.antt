@@ -7,8 +7,8 @@ use mathlib.Core.Bool.{true, true≢false}
 use mathlib.Core.List.{List}
 use lib.Dec.{lit≤}
 use lib.ListN.{length}
-use Rattle.refusal.specs.Number.{numberOf}
-use Rattle.refusal.specs.Outcome.{Outcome, refused}
+use Rattle.refusal.specs.Says.{saysOf}
+use Rattle.refusal.specs.Outcome.{Outcome, refusal}
 use Rattle.refusal.specs.declared.Refusal.{Refusal}
 use Rattle.message.specs.Values.{Message}
 use Rattle.message.specs.Reading.{readingOf, usesRadius, usesPart, Inside, ReadTo}
@@ -54,7 +54,7 @@ inside-part : {s radius connection starts lens : List ℕ} {kind : Kind} {total 
 inside-part h = record { part = h; few = lit≤ tt; records = λ i k. absurd (omega arith) }
 
 -- a refusal, with nothing beside it
-refused-blank : (why : Refusal) (s : List ℕ) → ReadTo (refused (numberOf why)) s (blankOf (Refused why))
+refused-blank : (why : Refusal) (s : List ℕ) → ReadTo (refusal (saysOf why)) s (blankOf (Refused why))
 refused-blank why s =
     record {
       value = refl;
@@ -71,7 +71,7 @@ refused-blank why s =
           };
     }
 
-pub refused-to : (why : Refusal) {d : Outcome Message} {s : List ℕ} {a : Reading} → a ≡ blankOf (Refused why) → d ≡ refused (numberOf why) → ReadTo d s a
+pub refused-to : (why : Refusal) {d : Outcome Message} {s : List ℕ} {a : Reading} → a ≡ blankOf (Refused why) → d ≡ refusal (saysOf why) → ReadTo d s a
 refused-to why {s = s} p q = answer-as p (read-as q (refused-blank why s))
 
 module _ {d : Outcome Message} {s : List ℕ} where

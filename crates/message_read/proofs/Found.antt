@@ -10,8 +10,9 @@ use lib.Dec.{ltb, leb, eqb}
 use lib.ListN.{length, getD, take, drop, length-drop}
 use lib.Seq.{drop-drop, getD-drop}
 use borrow.Author.Tests.{not-true, not-false, ltb-true, ltb-false, lt-ltb, le-ltb, le-leb, lt-leb, eq-eqb, ne-eqb}
-use Rattle.refusal.specs.Number.{numberOf}
-use Rattle.refusal.specs.Outcome.{given, refused}
+use Rattle.refusal.specs.Says.{saysOf}
+use Rattle.refusal.specs.Outcome.{given, refusal, refused}
+use Rattle.refusal.proofs.Outcomes.{same-refusal, accepted-not}
 use Rattle.refusal.specs.declared.Refusal.{Refusal}
 use Rattle.refusal.specs.declared.Checked.{Checked}
 use Rattle.refusal.specs.declared.Checked.the-variants.{Accepted, Refused}
@@ -31,14 +32,6 @@ use Rattle.message_read.proofs.Lists.{part-rest, present-drop}
 use Rattle.message_read.proofs.Shapes.{rest-none, rest-some, rest-long}
 use Rattle.message_read.proofs.Answers.{setTotal, setConnection, setPart, setPlaces, nodes-to, content-to}
 
--- the number of a refusal
-abbrev numberIn : Checked → ℕ
-numberIn Accepted = 0
-numberIn (Refused why) = numberOf why
-
-accepted-not : {A : Type 0} (why : Refusal) → Accepted ≡ Refused why → A
-accepted-not why e = absurd (let z : _≡_ {A = ℕ} 0 1 = cc in omega arith)
-
 -- only good records are accepted
 whyOf-good : (v : Verdict) → whyOf v ≡ Accepted → v ≡ Good
 whyOf-good Broken e = accepted-not _ (sym e)
@@ -48,9 +41,9 @@ whyOf-good Good e = refl
 
 -- what is left of the rules once the records have their verdict
 verdict-refused : (few good more : Bool) (m : Message) (why : Refusal) → whyOf (cond few (cond good Good Bad) TooMany) ≡ Refused why
-    → ruled few (good && more) m ≡ refused (numberOf why)
-verdict-refused false good more m why e = ap refused (ap numberIn e)
-verdict-refused true false more m why e = ap refused (ap numberIn e)
+    → ruled few (good && more) m ≡ refusal (saysOf why)
+verdict-refused false good more m why e = same-refusal e
+verdict-refused true false more m why e = same-refusal e
 verdict-refused true true more m why e = accepted-not why e
 
 verdict-good : (few good more : Bool) (m : Message) → whyOf (cond few (cond good Good Bad) TooMany) ≡ Accepted
@@ -63,8 +56,8 @@ verdict-good true true more m e = refl
 module _ (f : List (List ℕ) → Message) (more : List (List ℕ) → Bool)
     (rules : (rs : List (List ℕ)) → rulesOf (f rs) ≡ ruled (leb (length rs) 32) (goodRecords rs && more rs) (f rs)) where
   found-refused : (o : Option (List (List ℕ))) (why : Refusal) → whyOf (verdictOf o) ≡ Refused why
-      → ruledOr4 (mapSome f o) ≡ refused (numberOf why)
-  found-refused none why e = ap refused (ap numberIn e)
+      → ruledOr4 (mapSome f o) ≡ refusal (saysOf why)
+  found-refused none why e = same-refusal e
   found-refused (some rs) why e = rules rs ∙ verdict-refused (leb (length rs) 32) (goodRecords rs) (more rs) (f rs) why e
 
   found-good : (rs : List (List ℕ)) → whyOf (verdictOf (some rs)) ≡ Accepted → ruledOr4 (mapSome f (some rs)) ≡ cond (more rs) (given (f rs)) (refused 6)
@@ -90,7 +83,7 @@ module _ {s : List ℕ} {r : Bool} (t : RestAt 5 s r) (e : not r ≡ false) (fou
       ap₂ foundNodesOf (getD-drop 1 s 0 0) (rest-some t e)
       ∙ ap (mapSome (foundNodes (getD s 1 0))) (sym nodes-in)
 
-  pub nodes-refused : (why : Refusal) → whyOf (found .verdict) ≡ Refused why → ruledOr4 (layoutOf 4 (drop 1 s)) ≡ refused (numberOf why)
+  pub nodes-refused : (why : Refusal) → whyOf (found .verdict) ≡ Refused why → ruledOr4 (layoutOf 4 (drop 1 s)) ≡ refusal (saysOf why)
   nodes-refused why k =
       ap ruledOr4 nodes-layout
       ∙ found-refused (foundNodes (getD s 1 0)) (λ rs. ltb 0 (getD s 1 0)) (nodes-rules (getD s 1 0)) (recordsIn s 6 (length s)) why
@@ -202,7 +195,7 @@ module _ {s : List ℕ} {two : Bool} {second : ℕ} (w : two ≡ twoOffsets (dro
   content-layout =
       rw (two-pass offsets, at, drop-drop 12 1 s, drop-drop second 1 s) (ap (mapSome content) (sym content-in))
 
-  pub content-refused : (why : Refusal) → whyOf (found .verdict) ≡ Refused why → ruledOr4 (layoutOf 6 (drop 1 s)) ≡ refused (numberOf why)
+  pub content-refused : (why : Refusal) → whyOf (found .verdict) ≡ Refused why → ruledOr4 (layoutOf 6 (drop 1 s)) ≡ refusal (saysOf why)
   content-refused why k =
       ap ruledOr4 content-layout
       ∙ found-refused content _ (content-rules (take 4 (drop 1 s)) (drop (1 + second) s)) (recordsIn s 13 (1 + second)) why

@@ -11,23 +11,16 @@ use lib.ListN.{length, getD, take, drop, length-drop, length-reverse, drop-of-le
 use lib.Seq.{drop-cons, take-all, getD-at}
 use borrow.Author.Tests.{ltb-true, ltb-false}
 use Rattle.octets.specs.Bytes.{le}
-use Rattle.octets.proofs.Listed.{listed}
+use Rattle.octets.proofs.Parts.{bytes-at-part}
 use Rattle.message.specs.Records.{offsetOf}
 use Rattle.message.specs.Rules.{present}
-
--- elements written out are the part that they stand in
-pub listed-take : (n j : ℕ) (xs : List ℕ) → j + n ≤ length xs → listed n j xs ≡ take n (drop j xs)
-listed-take zero j xs h = refl
-listed-take (suc n) j xs h =
-    ap (λ (l : List ℕ). getD xs j 0 ∷ l) (listed-take n (suc j) xs (omega arith))
-    ∙ ap (take (suc n)) (sym (drop-cons xs j 0 (omega arith)))
 
 -- four bytes as a number
 pub offset-at : (s : List ℕ) (at : ℕ) → at + 4 ≤ length s
     → getD s at 0 + 256 * (getD s (at + 1) 0 + 256 * (getD s (at + 2) 0 + 256 * getD s (at + 3) 0)) ≡ offsetOf (drop at s)
 unfolding offsetOf le
 offset-at s at h =
-    rw (add-one, add-two at, add-three at) (omega (arith, ap le (listed-take 4 at s h)))
+    rw (add-one, add-two at, add-three at) (omega (arith, ap le (bytes-at-part 4 at s h)))
   where
     add-two : (n : ℕ) → n + 2 ≡ suc (suc n)
     add-two n = omega arith

@@ -10,7 +10,8 @@ use lib.Dec.{leb, eqb}
 use lib.ListN.{length, take, drop, length-drop}
 use lib.Seq.{drop-drop}
 use borrow.Author.Tests.{not-true, not-false, le-leb, lt-leb, eq-eqb, ne-eqb}
-use Rattle.refusal.specs.Outcome.{given, refused}
+use Rattle.refusal.specs.Says.{Said}
+use Rattle.refusal.specs.Outcome.{given, refusal, refused}
 use Rattle.content_key.specs.Key.{keyOf}
 use Rattle.message.specs.Values.{findNode, store}
 use Rattle.message.specs.Records.{offsetOf}
@@ -107,8 +108,8 @@ key-broken is-find-content t e = rw (rest-none t e)
 key-broken is-offer t e = rw (rest-none t e)
 key-broken is-accept t e = rw (rest-none t e)
 
-pub key-bad : {kind : Kind} {s : List ℕ} {r : Bool} {n : ℕ} → KeyKind kind → RestAt 4 s r → not r ≡ false → refused n ≡ keyOf (drop 5 s)
-    → ruledOr4 (layoutOf (typeOf kind) (drop 1 s)) ≡ refused n
+pub key-bad : {kind : Kind} {s : List ℕ} {r : Bool} {says : Said} → KeyKind kind → RestAt 4 s r → not r ≡ false → refusal says ≡ keyOf (drop 5 s)
+    → ruledOr4 (layoutOf (typeOf kind) (drop 1 s)) ≡ refusal says
 unfolding layoutOf rulesOf
 key-bad is-find-content t e k = rw (rest-some t e, ← k)
 key-bad is-offer t e k = rw (rest-some t e, ← k)

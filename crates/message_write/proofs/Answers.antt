@@ -8,9 +8,10 @@ use mathlib.Core.List.{List, _++_}
 use lib.Dec.{ltb}
 use lib.ListN.{length, drop}
 use borrow.Author.Tests.{lt-ltb, le-ltb, ltb-false}
-use Rattle.refusal.specs.Number.{numberOf}
-use Rattle.refusal.specs.Outcome.{Outcome, given, refused}
+use Rattle.refusal.specs.Says.{saysOf}
+use Rattle.refusal.specs.Outcome.{Outcome, given, refusal, refused}
 use Rattle.refusal.specs.Buffer.{Writes, counted, written}
+use Rattle.refusal.proofs.Outcomes.{same-refusal, accepted-not}
 use Rattle.refusal.specs.declared.Refusal.{Refusal}
 use Rattle.refusal.specs.declared.Refusal.the-variants.{LongMessage, ShortBuffer}
 use Rattle.refusal.specs.declared.Checked.{Checked}
@@ -19,16 +20,8 @@ use Rattle.refusal.specs.declared.Wrote.{Wrote}
 use Rattle.message_write.specs.Write.{fitting}
 use Rattle.message_write.specs.Parts.{Put, sizeWhy}
 
--- the number of a refusal
-abbrev pub numberIn : Checked → ℕ
-numberIn Accepted = 0
-numberIn (Refused why) = numberOf why
-
-pub accepted-not : {A : Type 0} (why : Refusal) → Accepted ≡ Refused why → A
-accepted-not why e = absurd (let z : _≡_ {A = ℕ} 0 1 = cc in omega arith)
-
 -- a refusal leaves the buffer as it was
-pub refused-writes : {o : Outcome (List ℕ)} (why : Refusal) (d : List ℕ) → o ≡ refused (numberOf why) → Writes o (Wrote.Refused why) d d
+pub refused-writes : {o : Outcome (List ℕ)} (why : Refusal) (d : List ℕ) → o ≡ refusal (saysOf why) → Writes o (Wrote.Refused why) d d
 refused-writes why d e = record { answered = sym (ap counted e); buffer = sym (ap (λ (k : Outcome (List ℕ)). written k d) e) }
 
 -- the same bytes are written
@@ -57,13 +50,13 @@ size-accepted n room e = go (ltb 1280 n) (ltb room n) refl refl e
 
 -- bytes of a size that was tested
 module _ (bytes : List ℕ) (n room : ℕ) (long : length bytes ≡ n) where
-  pub size-refused : (why : Refusal) → Refused why ≡ sizeWhy n room → fitting bytes room ≡ refused (numberOf why)
+  pub size-refused : (why : Refusal) → Refused why ≡ sizeWhy n room → fitting bytes room ≡ refusal (saysOf why)
   size-refused why e = rw long (go (ltb 1280 n) (ltb room n) e)
     where
       go : (a b : Bool) → Refused why ≡ cond a (Refused LongMessage) (cond b (Refused ShortBuffer) Accepted)
-          → cond a (refused 2) (cond b (refused 13) (given bytes)) ≡ refused (numberOf why)
-      go true b e = sym (ap (λ (c : Checked). refused (numberIn c)) e)
-      go false true e = sym (ap (λ (c : Checked). refused (numberIn c)) e)
+          → cond a (refused 2) (cond b (refused 13) (given bytes)) ≡ refusal (saysOf why)
+      go true b e = same-refusal (sym e)
+      go false true e = same-refusal (sym e)
       go false false e = accepted-not why (sym e)
 
 -- bytes at the front of the buffer are written

@@ -8,8 +8,9 @@ use mathlib.Core.Option.{Option, some, none}
 use lib.Dec.{leb, ltb}
 use lib.ListN.{length, getD}
 use borrow.Author.Tests.{le-leb, lt-leb, lt-ltb}
-use Rattle.refusal.specs.Number.{numberOf}
-use Rattle.refusal.specs.Outcome.{Outcome, refused}
+use Rattle.refusal.specs.Says.{saysOf}
+use Rattle.refusal.specs.Outcome.{Outcome, refusal, refused}
+use Rattle.refusal.proofs.Outcomes.{same-refusal, accepted-not}
 use Rattle.refusal.specs.declared.Refusal.{Refusal}
 use Rattle.refusal.specs.declared.Refusal.the-variants.{TooManyItems, ItemRule}
 use Rattle.refusal.specs.declared.Checked.the-variants.{Accepted, Refused}
@@ -24,15 +25,14 @@ use Rattle.message_write.specs.Lent.{lent}
 use Rattle.message_write.specs.Write.{fitting, ruledBytes, bytesForLent}
 use Rattle.message_write.specs.Parts.{thingsOf, lentWhy, LentTo}
 use Rattle.message_write.specs.declared.Lent.{Lent}
-use Rattle.message_write.proofs.Answers.{numberIn, accepted-not}
 use Rattle.message_write.proofs.Lists.{present-length, size-at}
 
 -- what is left of the rules once the records have their answer
 why-refused : (few good more : Bool) (m : Message) (room : ℕ) (why : Refusal)
     → cond few (cond good Accepted (Refused ItemRule)) (Refused TooManyItems) ≡ Refused why
-    → ruledBytes (ruled few (good && more) m) room ≡ refused (numberOf why)
-why-refused false good more m room why e = ap refused (ap numberIn e)
-why-refused true false more m room why e = ap refused (ap numberIn e)
+    → ruledBytes (ruled few (good && more) m) room ≡ refusal (saysOf why)
+why-refused false good more m room why e = same-refusal e
+why-refused true false more m room why e = same-refusal e
 why-refused true true more m room why e = accepted-not why e
 
 why-accepted : (few good more : Bool) (m : Message) (room : ℕ) → cond few (cond good Accepted (Refused ItemRule)) (Refused TooManyItems) ≡ Accepted
@@ -71,13 +71,13 @@ module _ (s starts lens : List ℕ) (r : Lent) (l : LentTo s starts lens r) wher
   -- a message of records, whose rules are those of the records and one test more
   module _ (f : List (List ℕ) → Message) (more : List (List ℕ) → Bool)
       (rules : (rs : List (List ℕ)) → rulesOf (f rs) ≡ ruled (leb (length rs) 32) (goodRecords rs && more rs) (f rs)) (room : ℕ) where
-    refused-by : (o : Option (List (List ℕ))) (why : Refusal) → lentWhy o ≡ Refused why → bytesForLent f o room ≡ refused (numberOf why)
-    refused-by none why e = ap refused (ap numberIn e)
+    refused-by : (o : Option (List (List ℕ))) (why : Refusal) → lentWhy o ≡ Refused why → bytesForLent f o room ≡ refusal (saysOf why)
+    refused-by none why e = same-refusal e
     refused-by (some rs) why e =
         ap (λ (m : Outcome Message). ruledBytes m room) (rules rs)
         ∙ why-refused (leb (length rs) 32) (goodRecords rs) (more rs) (f rs) room why e
 
-    found-refused : (why : Refusal) → r .checked ≡ Refused why → bytesForLent f (lent s starts lens) room ≡ refused (numberOf why)
+    found-refused : (why : Refusal) → r .checked ≡ Refused why → bytesForLent f (lent s starts lens) room ≡ refusal (saysOf why)
     found-refused why e = refused-by (lent s starts lens) why (sym (l .checked) ∙ e)
 
     found-tested : r .checked ≡ Accepted → bytesForLent f (lent s starts lens) room ≡ cond (more records) (fitting (encode (f records)) room) (refused 6)
@@ -92,7 +92,7 @@ module _ (s starts lens : List ℕ) (r : Lent) (l : LentTo s starts lens r) wher
     unfolding rulesOf
     nodes-rules rs = ap (λ (b : Bool). ruled (leb (length rs) 32) b (foundNodes total rs)) (and-comm (ltb 0 total) (goodRecords rs))
 
-    pub nodes-refused : (why : Refusal) → r .checked ≡ Refused why → bytesForLent (foundNodes total) (lent s starts lens) room ≡ refused (numberOf why)
+    pub nodes-refused : (why : Refusal) → r .checked ≡ Refused why → bytesForLent (foundNodes total) (lent s starts lens) room ≡ refusal (saysOf why)
     nodes-refused = found-refused (foundNodes total) (λ (rs : List (List ℕ)). ltb 0 total) nodes-rules room
 
     nodes-tested : r .checked ≡ Accepted → bytesForLent (foundNodes total) (lent s starts lens) room
@@ -123,7 +123,7 @@ module _ (s starts lens : List ℕ) (r : Lent) (l : LentTo s starts lens r) wher
     unfolding rulesOf
     content-rules rs = refl
 
-    pub content-refused : (why : Refusal) → r .checked ≡ Refused why → bytesForLent made (lent s starts lens) room ≡ refused (numberOf why)
+    pub content-refused : (why : Refusal) → r .checked ≡ Refused why → bytesForLent made (lent s starts lens) room ≡ refusal (saysOf why)
     content-refused = found-refused made alone content-rules room
 
     module _ (n : ℕ) (is : n ≡ thingsOf connection (r .count) (length content)) (e : r .checked ≡ Accepted) where

@@ -23,7 +23,7 @@ use Rattle.message_rules.proofs.Places.{records-length}
 use Rattle.message_rules.proofs.Good.{outside-at, inside-all, good-inside}
 use Rattle.message_write.specs.Lent.{within, lent}
 use Rattle.message_write.specs.Parts.{allWithin, padded, lentWhy, unlentOf, LentTo}
-use Rattle.message_write.proofs.Answers.{accepted-not}
+use Rattle.refusal.proofs.Outcomes.{accepted-not}
 
 module _ (s starts lens : List ℕ) where
   -- starts and lengths differ in number

@@ -11,7 +11,8 @@ use lib.Dec.{ltb}
 use lib.ListN.{length, take, drop, length-append}
 use lib.Seq.{take-at}
 use borrow.Author.Tests.{le-ltb, ltb-false}
-use Rattle.refusal.specs.Outcome.{Outcome, given, refused}
+use Rattle.refusal.specs.Says.{Said, only}
+use Rattle.refusal.specs.Outcome.{Outcome, given, refusal, refused}
 use Rattle.refusal.specs.Buffer.{Writes}
 use Rattle.refusal.specs.declared.Wrote.{Wrote}
 use Rattle.octets.specs.Bytes.{Bytes}
@@ -33,8 +34,8 @@ pub record WrittenBack (m : Message) (n : ℕ) (after : List ℕ) : Type 0 where
   pub bytes : take n after ≡ encode m
   pub read : decode (take n after) ≡ given m
 
-given-not : {A : Type 0} {B : Type 0} (n : ℕ) (a : A) → refused n ≡ given a → B
-given-not n a e = absurd (let z : _≡_ {A = ℕ} 0 1 = cc in omega arith)
+given-not : {A : Type 0} {B : Type 0} (says : Said) (a : A) → refusal says ≡ given a → B
+given-not says a e = absurd (let z : _≡_ {A = ℕ} 0 1 = cc in omega arith)
 
 -- bytes that are given keep the rules, are not too long, and are the message's
 record Given (m : Message) (bytes : List ℕ) : Type 0 where
@@ -47,13 +48,13 @@ bytes-given m room bytes e = go (rulesOf m) (judged m) refl e
   where
     fits : rulesOf m ≡ given m → (a b : Bool) → ltb 1280 (length (encode m)) ≡ a
         → cond a (refused 2) (cond b (refused 13) (given (encode m))) ≡ given bytes → Given m bytes
-    fits r true b p q = given-not 2 bytes q
-    fits r false true p q = given-not 13 bytes q
+    fits r true b p q = given-not (only 2) bytes q
+    fits r false true p q = given-not (only 13) bytes q
     fits r false false p q = record { rules = r; short = ltb-false 1280 (length (encode m)) p; same = cc }
 
     go : (o : Outcome Message) → Judged m o → rulesOf m ≡ o → ruledBytes o room ≡ given bytes → Given m bytes
     go _ kept r q = fits r (ltb 1280 (length (encode m))) (ltb room (length (encode m))) refl q
-    go _ (broken {n} low high) r q = given-not n bytes q
+    go _ (broken {n} low high) r q = given-not (only n) bytes q
 
 -- what a write call wrote is read back as the values handed in
 pub written-back : (m : Message) → Formed m → (room n : ℕ) (before after : List ℕ) → Writes (bytesFor m room) (Wrote.Bytes n) before after
@@ -61,7 +62,7 @@ pub written-back : (m : Message) → Formed m → (room n : ℕ) (before after :
 written-back m f room n before after w = go (bytesFor m room) refl w
   where
     go : (o : Outcome (List ℕ)) → bytesFor m room ≡ o → Writes o (Wrote.Bytes n) before after → WrittenBack m n after
-    go (refused k) e v = given-not k n (sym (v .answered))
+    go (refusal k) e v = given-not k n (sym (v .answered))
     go (given bytes) e v =
         let g = bytes-given m room bytes e in
         let long : length bytes ≡ n = cc (v .answered) in
@@ -85,7 +86,7 @@ pub record LentBack (make : List (List ℕ) → Message) (o : Option (List (List
 
 lent-back : (make : List (List ℕ) → Message) (o : Option (List (List ℕ))) → ((rs : List (List ℕ)) → o ≡ some rs → Formed (make rs))
     → (room n : ℕ) (before after : List ℕ) → Writes (bytesForLent make o room) (Wrote.Bytes n) before after → LentBack make o n after
-lent-back make none f room n before after w = given-not 4 n (sym (w .answered))
+lent-back make none f room n before after w = given-not (only 4) n (sym (w .answered))
 lent-back make (some rs) f room n before after w =
     record { records = rs; lent = refl; back = written-back (make rs) (f rs refl) room n before after w }
 

@@ -7,7 +7,8 @@ use mathlib.Core.List.{List, [], _∷_, _++_, reverse}
 use lib.Dec.{eqb}
 use lib.ListN.{length}
 use borrow.Author.Tests.{le-leb, lt-leb, eq-eqb, ne-eqb, not-true, not-false}
-use Rattle.refusal.specs.Outcome.{given, refused}
+use Rattle.refusal.specs.Says.{Said}
+use Rattle.refusal.specs.Outcome.{given, refusal, refused}
 use Rattle.octets.specs.Bytes.{leBytes}
 use Rattle.content_key.specs.Key.{keyOf}
 use Rattle.message.specs.Values.{findNode, store}
@@ -45,11 +46,11 @@ module _ (ds : List ℕ) (room : ℕ) where
     distances-good e = rw (le-leb (length ds) 256 few, ← is, not-false t e)
 
 -- FindContent, Offer, Accept
-pub key-bad : (kind : KeyMessage) (key : List ℕ) (room n : ℕ) → refused n ≡ keyOf key → bytesFor (keyMessageOf kind key) room ≡ refused n
+pub key-bad : (kind : KeyMessage) (key : List ℕ) (room : ℕ) (says : Said) → refusal says ≡ keyOf key → bytesFor (keyMessageOf kind key) room ≡ refusal says
 unfolding rulesOf
-key-bad FindContent key room n e = rw (← e)
-key-bad Offer key room n e = rw (← e)
-key-bad Accept key room n e = rw (← e)
+key-bad FindContent key room says e = rw (← e)
+key-bad Offer key room says e = rw (← e)
+key-bad Accept key room says e = rw (← e)
 
 pub key-good : (kind : KeyMessage) (key : List ℕ) (room : ℕ) (k : List ℕ) → given k ≡ keyOf key → (t : ℕ) → t ≡ keyType kind
     → bytesFor (keyMessageOf kind key) room ≡ fitting ((t ∷ 4 ∷ 0 ∷ 0 ∷ 0 ∷ []) ++ key) room

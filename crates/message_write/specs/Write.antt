@@ -5,7 +5,7 @@ use mathlib.Core.List.{List}
 use mathlib.Core.Option.{Option, some, none}
 use lib.Dec.{ltb}
 use lib.ListN.{length}
-use Rattle.refusal.specs.Outcome.{Outcome, given, refused}
+use Rattle.refusal.specs.Outcome.{Outcome, given, refusal, refused}
 use Rattle.message.specs.Values.{Message}
 use Rattle.message.specs.Encode.{encode}
 use Rattle.message.specs.Rules.{rulesOf}
@@ -16,7 +16,7 @@ fitting bytes room = cond (ltb 1280 (length bytes)) (refused 2) (cond (ltb room 
 
 abbrev pub ruledBytes : Outcome Message → ℕ → Outcome (List ℕ)
 ruledBytes (given m) room = fitting (encode m) room
-ruledBytes (refused n) room = refused n
+ruledBytes (refusal says) room = refusal says
 
 -- the bytes that writing these values into a buffer of this length writes, or the refusal
 abbrev pub bytesFor : Message → ℕ → Outcome (List ℕ)

@@ -1,12 +1,16 @@
 -- The test for equal byte strings says equality, and the test for what is in a list says membership. Each law goes by recursion on
 -- the list, with the cases of one test as a helper. Assumes nothing.
-use Prim.Native.Nat.{ℕ}
+use Prim.Native.Nat.{ℕ, suc, _+_, _<_, _≤_}
+use native.Mathlib.Numerals.{add-one}
+use native.Mathlib.Omega.{arith}
 use mathlib.Core.Path.{_≡_, refl, sym, ap, ap₂, _∙_}
 use mathlib.Core.Bool.{Bool, true, false, _&&_, _||_, true≢false}
 use mathlib.Core.Logic.{_↔_, _⊎_, inl, inr}
 use mathlib.Core.List.{List, [], _∷_, List·Memᴰ, List·Memᴰ·head, List·Memᴰ·tail, List·Memᴰ·cases-cons, List·Memᴰ·not-nil}
 use lib.Dec.{eqb}
-use borrow.Author.Tests.{eqb-true, eq-eqb}
+use lib.ListN.{length, getD, drop, drop-of-length-le}
+use lib.Seq.{drop-cons}
+use borrow.Author.Tests.{eqb-true, eq-eqb, ne-eqb}
 use Rattle.octets.specs.Equal.{sameBytes, holds}
 
 -- equal byte strings pass the test
@@ -71,3 +75,27 @@ member-holds a (b ∷ l) m = go (sameBytes a b) refl (List·Memᴰ·cases-cons m
 -- the test is membership
 pub holds-iff : (a : List ℕ) (l : List (List ℕ)) → (holds sameBytes a l ≡ true) ↔ List·Memᴰ a l
 holds-iff a l = (holds-member a l, member-holds a l)
+
+-- byte strings of different lengths fail the test
+pub differ-length : (xs ys : List ℕ) → (length xs ≡ length ys → ⊥) → sameBytes xs ys ≡ false
+differ-length xs ys n = differ-same xs ys (λ e. n (ap length e))
+
+-- the test of what is left at place i, by the byte there
+module _ (a b : List ℕ) (l : length a ≡ length b) (i : ℕ) where
+  split : i < length a → sameBytes (drop i a) (drop i b) ≡ sameBytes (getD a i 0 ∷ drop (suc i) a) (getD b i 0 ∷ drop (suc i) b)
+  split h = ap₂ (λ (xs ys : List ℕ). sameBytes xs ys) (drop-cons a i 0 h) (drop-cons b i 0 (omega arith))
+
+  -- a byte that differs decides it
+  pub same-here : i < length a → (getD a i 0 ≡ getD b i 0 → ⊥) → sameBytes (drop i a) (drop i b) ≡ false
+  unfolding sameBytes
+  same-here h n = split h ∙ rw (ne-eqb (getD a i 0) (getD b i 0) n)
+
+  -- an equal one leaves it to the rest
+  pub same-later : i < length a → getD a i 0 ≡ getD b i 0 → sameBytes (drop i a) (drop i b) ≡ sameBytes (drop (i + 1) a) (drop (i + 1) b)
+  unfolding sameBytes
+  same-later h e = rw add-one (split h ∙ rw (eq-eqb (getD a i 0) (getD b i 0) e))
+
+  -- nothing is left at the end
+  pub same-end : length a ≤ i → sameBytes (drop i a) (drop i b) ≡ true
+  unfolding sameBytes
+  same-end h = ap₂ (λ (xs ys : List ℕ). sameBytes xs ys) (drop-of-length-le a h) (drop-of-length-le b {i = i} (omega arith))

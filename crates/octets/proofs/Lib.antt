@@ -1,4 +1,5 @@
+pub mod Buffers
 pub mod Equal
-pub mod Listed
 pub mod Numbers
 pub mod Order
+pub mod Parts

@@ -1,3 +1,5 @@
 pub mod Bytes
 pub mod Equal
 pub mod Order
+pub mod Parts
+pub mod Buffer

@@ -1,3 +1,3 @@
-pub mod Number
+pub mod Says
 pub mod Outcome
 pub mod Buffer

@@ -1,6 +1,6 @@
 // The table of refusals: one enum for every number that a call gives back instead of an answer.
 ghost use mathlib.Core.Path.{_≡_};
-ghost use Rattle.refusal.specs.Number.{numberOf};
+ghost use Rattle.refusal.specs.Says.{numberOf};
 
 // Why a call is refused, in the order of the numbers from 0 to 15.
 pub enum Refusal {

@@ -10,7 +10,7 @@ use Rattle.nearest.specs.Sorted.{_among_, SortedFrom, distances}
 use Rattle.nearest.specs.Nearest.{Nearest, Within}
 use Rattle.nearest.proofs.Sorted.{sorted-least}
 use Rattle.nearest.proofs.Nearest.{nearest-distances}
-use Rattle.runs.specs.Setting.{Setting}
+use Rattle.runs.specs.Setting.{Setting, Laws}
 use Rattle.runs.specs.Views.{View, Call, store, remove, reload, Answer, reloaded, Good, Gives}
 use Rattle.runs.specs.Done.{Index}
 use Rattle.runs.specs.Runs.{Part, answers, NoReload, Stretch, stores, evictions, removals, count, Presented, Candidate, Includes, SameSet, SameKeys}
@@ -25,8 +25,8 @@ sorted-different dist b [] s = tt
 sorted-different dist b (k ∷ ks) s =
     (λ m. lt-irrefl (dist k) (sorted-least dist (suc (dist k)) ks (s .1) (Memᴰ·map dist m)), sorted-different dist (suc (dist k)) ks (s .1))
 
-module _ (S : Setting) where
-  open Setting S using (Key, Owner, Text, ValidOwner, ValidKey, dist, limit, same-distance, keyIn-valid)
+module _ {S : Setting} (L : Laws S) where
+  open Setting S using (Key, Owner, Text, ValidOwner, ValidKey, dist, limit)
 
   -- the rules say that the keys are in order
   pub good-order : (v : View S) → Good S v → InOrder S v
@@ -34,13 +34,13 @@ module _ (S : Setting) where
     most = good .most;
     different = sorted-different (dist (v .owner)) 0 (v .keys) (good .sorted);
     sorted = good .sorted;
-    within = within-radius S v good;
+    within = within-radius L v good;
   }
 
   -- what is offered is a key
   presented-valid : (o : Owner) (cs : List (Call S)) (k : Key) → Presented S o cs k → ValidKey o k
   presented-valid o [] k f = absurd f
-  presented-valid o (store raw content ∷ cs) k f = ⊎-elim (λ u. keyIn-valid o raw k (u .0 .presented)) (presented-valid o cs k) f
+  presented-valid o (store raw content ∷ cs) k f = ⊎-elim (λ u. L .keyIn-valid o raw k (u .0 .presented)) (presented-valid o cs k) f
   presented-valid o (remove raw ∷ cs) k f = ⊎-elim absurd (presented-valid o cs k) f
   presented-valid o (reload t ∷ cs) k f = ⊎-elim absurd (presented-valid o cs k) f
 
@@ -53,7 +53,7 @@ module _ (S : Setting) where
       let t = has k f in
       let p = presented-valid (v .owner) cs′ (t .0) (t .1) in
       let q = presented-valid (v .owner) cs k f in
-      (t .0, inr (t .1), same-distance (v .owner) (t .0) k (good .validOwner) p q .0 (t .2))
+      (t .0, inr (t .1), L .same-distance (v .owner) (t .0) k (good .validOwner) p q .0 (t .2))
 
   -- equal distances in the same places are the same keys in the same places
   same-keys : (o : Owner) (js ks : List Key) → ValidOwner o → ((k : Key) → k among js → ValidKey o k)
@@ -62,7 +62,7 @@ module _ (S : Setting) where
   same-keys o [] (k ∷ ks) valid p q e = let z : _≡_ {A = ℕ} 0 1 = cc in omega arith
   same-keys o (j ∷ js) [] valid p q e = let z : _≡_ {A = ℕ} 0 1 = cc in omega arith
   same-keys o (j ∷ js) (k ∷ ks) valid p q e = (
-    same-distance o j k valid (p j (here refl)) (q k (here refl)) .1 (cc),
+    L .same-distance o j k valid (p j (here refl)) (q k (here refl)) .1 (cc),
     same-keys o js ks valid (λ i m. p i (there m)) (λ i m. q i (there m)) (cc),
   )
 
@@ -72,7 +72,7 @@ module _ (S : Setting) where
     owner-part : NoReload S told → w .owner ≡ v .owner
     owner-part n =
         subst (λ (x : View S). x .owner ≡ v .owner) (sym (part .ends))
-        (owner-run S index v cs good (subst (λ (l : List (Answer S)). NoReload S l) (part .answered) n))
+        (owner-run L index v cs good (subst (λ (l : List (Answer S)). NoReload S l) (part .answered) n))
 
     -- and the count holds
     counts-part : NoReload S told
@@ -81,14 +81,14 @@ module _ (S : Setting) where
         subst₂ (λ (x : View S) (l : List (Answer S)).
         length (v .keys) + count S (stores S) l ≡ length (x .keys) + count S (evictions S) l + count S (removals S) l)
         (sym (part .ends)) (sym (part .answered))
-        (counts-run S index v cs good (subst (λ (l : List (Answer S)). NoReload S l) (part .answered) n))
+        (counts-run L index v cs good (subst (λ (l : List (Answer S)). NoReload S l) (part .answered) n))
 
     -- a stretch ends at the nearest
     nearest-part : Stretch S told
         → Nearest (dist (v .owner)) (limit (v .owner)) (Candidate S v cs) (w .keys)
     nearest-part s =
         subst (λ (x : View S). Nearest (dist (v .owner)) (limit (v .owner)) (Candidate S v cs) (x .keys)) (sym (part .ends))
-        (nearest-run S index v cs good (subst (λ (l : List (Answer S)). Stretch S l) (part .answered) s))
+        (nearest-run L index v cs good (subst (λ (l : List (Answer S)). Stretch S l) (part .answered) s))
 
   -- after a reload that was accepted, the owner is the one that its text gave
   reloaded-part : (index : Index S) {o : Owner} {calls cs : List (Call S)} {v w u : View S} {t : Text} {told : List (Answer S)} → Good S v
@@ -97,8 +97,8 @@ module _ (S : Setting) where
       let done = index .done v (reload t) good in
       let e : told ≡ answers S (index .step) (index .step v (reload t) .0) cs = cc (part .answered) in
       ap (λ (x : View S). x .owner) (part .ends)
-      ∙ owner-run S index (index .step v (reload t) .0) cs (good-step S good done) (subst (λ (l : List (Answer S)). NoReload S l) e n)
-      ∙ ap (λ (x : View S). x .owner) (reloads-step S good done u .0 gives .1)
+      ∙ owner-run L index (index .step v (reload t) .0) cs (good-step L good done) (subst (λ (l : List (Answer S)). NoReload S l) e n)
+      ∙ ap (λ (x : View S). x .owner) (reloads-step L good done u .0 gives .1)
 
   -- two stretches that start alike end alike
   alike-parts : (index other : Index S) {o o′ : Owner} {calls calls′ cs cs′ : List (Call S)} {v w w′ : View S}
@@ -116,17 +116,17 @@ module _ (S : Setting) where
   -- demand 3
   pub demand3 : (index : Index S) (o : Owner) → ValidOwner o → (calls : List (Call S)) → Demand3 S (index .step) o calls
   demand3 index o valid calls = record {
-    inOrder = λ part. good-order _ (good-part S index valid part);
-    noZero = λ point. let good = good-part S index valid point in number-step S good (done-point S index good point);
-    ownerFresh = λ part n. owner-part index (good-part S index valid part) part n;
-    ownerReloaded = λ part n gives. reloaded-part index (good-part S index valid part) part n gives;
-    nearest = λ part s. nearest-part index (good-part S index valid part) part s;
-    alike = λ part s other o′ part′ s′ set. alike-parts index other (good-part S index valid part) part s part′ s′ set;
-    accepts = λ point ad new. let good = good-part S index valid point in accepts-step S good (done-point S index good point) ad new;
-    counts = λ part n. counts-part index (good-part S index valid part) part n;
-    evicts = λ point j. let good = good-part S index valid point in evicts-step S good (done-point S index good point) j;
-    removes = λ point. let good = good-part S index valid point in removes-step S good (done-point S index good point);
-    leaves = λ point accepted e. leaves-step S (done-point S index (good-part S index valid point) point) accepted e;
-    reloads = λ point u. let good = good-part S index valid point in reloads-step S good (done-point S index good point) u;
-    refuses = λ point. refuses-step S (done-point S index (good-part S index valid point) point);
+    inOrder = λ part. good-order _ (good-part L index valid part);
+    noZero = λ point. let good = good-part L index valid point in number-step L good (done-point L index good point);
+    ownerFresh = λ part n. owner-part index (good-part L index valid part) part n;
+    ownerReloaded = λ part n gives. reloaded-part index (good-part L index valid part) part n gives;
+    nearest = λ part s. nearest-part index (good-part L index valid part) part s;
+    alike = λ part s other o′ part′ s′ set. alike-parts index other (good-part L index valid part) part s part′ s′ set;
+    accepts = λ point ad new. let good = good-part L index valid point in accepts-step L good (done-point L index good point) ad new;
+    counts = λ part n. counts-part index (good-part L index valid part) part n;
+    evicts = λ point j. let good = good-part L index valid point in evicts-step L good (done-point L index good point) j;
+    removes = λ point. let good = good-part L index valid point in removes-step L good (done-point L index good point);
+    leaves = λ point accepted e. leaves-step L (done-point L index (good-part L index valid point) point) accepted e;
+    reloads = λ point u. let good = good-part L index valid point in reloads-step L good (done-point L index good point) u;
+    refuses = λ point. refuses-step L (done-point L index (good-part L index valid point) point);
   }

@@ -8,7 +8,7 @@ use lib.ListN.{length}
 use Rattle.nearest.specs.Sorted.{_among_}
 use Rattle.nearest.specs.Nearest.{Nearest}
 use Rattle.nearest.proofs.Nearest.{offers-nearest, nearest-iff}
-use Rattle.runs.specs.Setting.{Setting}
+use Rattle.runs.specs.Setting.{Setting, Laws}
 use Rattle.runs.specs.Views.{View, Call, Answer, refused, stored, evicted, removed, reloaded, fresh, Good}
 use Rattle.runs.specs.Done.{Done, Index}
 use Rattle.runs.specs.Runs.{Part, Point, run, answers, NoReload, Stretch, stores, evictions, removals, count, Candidate}
@@ -16,7 +16,7 @@ use Rattle.runs.proofs.Views.{good-fresh}
 use Rattle.runs.proofs.Steps.{good-step, owner-step, counts-step}
 use Rattle.runs.proofs.Stretches.{Folded, folded-none, folded-next, folded-step}
 
-module _ (S : Setting) where
+module _ {S : Setting} (L : Laws S) where
   open Setting S using (Owner, ValidOwner, dist, limit)
 
   noReload-rest : (a : Answer S) (told : List (Answer S)) → NoReload S (a ∷ told) → NoReload S told
@@ -44,7 +44,7 @@ module _ (S : Setting) where
     -- the rules are kept
     pub good-run : (v : View S) (cs : List (Call S)) → Good S v → Good S (run S (index .step) v cs)
     good-run v [] good = good
-    good-run v (c ∷ cs) good = good-run (index .step v c .0) cs (good-step S good (index .done v c good))
+    good-run v (c ∷ cs) good = good-run (index .step v c .0) cs (good-step L good (index .done v c good))
 
     -- the owner stays where no reload is accepted
     pub owner-run : (v : View S) (cs : List (Call S)) → Good S v → NoReload S (answers S (index .step) v cs)
@@ -53,7 +53,7 @@ module _ (S : Setting) where
     owner-run v (c ∷ cs) good n =
         let done = index .done v c good in
         let told = answers S (index .step) (index .step v c .0) cs in
-        owner-run (index .step v c .0) cs (good-step S good done) (noReload-rest (index .step v c .1) told n) ∙ owner-step S told done n
+        owner-run (index .step v c .0) cs (good-step L good done) (noReload-rest (index .step v c .1) told n) ∙ owner-step L told done n
 
     -- the count
     pub counts-run : (v : View S) (cs : List (Call S)) → Good S v → NoReload S (answers S (index .step) v cs)
@@ -65,21 +65,21 @@ module _ (S : Setting) where
     counts-run v (c ∷ cs) good n =
         let done = index .done v c good in
         let told = answers S (index .step) (index .step v c .0) cs in
-        let rest = counts-run (index .step v c .0) cs (good-step S good done) (noReload-rest (index .step v c .1) told n) in
-        omega (arith, counts-step S told good done n, rest)
+        let rest = counts-run (index .step v c .0) cs (good-step L good done) (noReload-rest (index .step v c .1) told n) in
+        omega (arith, counts-step L told good done n, rest)
 
     -- a stretch comes to keys offered
     pub folded-run : (v : View S) (cs : List (Call S)) → Good S v → Stretch S (answers S (index .step) v cs)
-        → Folded S (v .owner) cs (v .keys) ((run S (index .step) v cs) .keys)
-    folded-run v [] good s = folded-none S (v .owner) [] (v .keys) (λ k f. f)
+        → Folded L (v .owner) cs (v .keys) ((run S (index .step) v cs) .keys)
+    folded-run v [] good s = folded-none L (v .owner) [] (v .keys) (λ k f. f)
     folded-run v (c ∷ cs) good s =
         let w = index .step v c .0 in
         let a = index .step v c .1 in
         let done = index .done v c good in
         let told = answers S (index .step) w cs in
-        folded-next S (v .owner) c cs (v .keys) (w .keys) ((run S (index .step) w cs) .keys) (folded-step S told good done s)
-        (subst (λ (o : Owner). Folded S o cs (w .keys) ((run S (index .step) w cs) .keys)) (owner-step S [] done (stretch-first a told s))
-        (folded-run w cs (good-step S good done) (stretch-rest a told s)))
+        folded-next L (v .owner) c cs (v .keys) (w .keys) ((run S (index .step) w cs) .keys) (folded-step L told good done s)
+        (subst (λ (o : Owner). Folded L o cs (w .keys) ((run S (index .step) w cs) .keys)) (owner-step L [] done (stretch-first a told s))
+        (folded-run w cs (good-step L good done) (stretch-rest a told s)))
 
     -- so it ends at the nearest of the keys held and those offered
     pub nearest-run : (v : View S) (cs : List (Call S)) → Good S v → Stretch S (answers S (index .step) v cs)
@@ -95,7 +95,7 @@ module _ (S : Setting) where
     pub good-part : {o : Owner} {calls cs : List (Call S)} {v w : View S} {told : List (Answer S)} → ValidOwner o
         → Part S (index .step) o calls v cs w told → Good S v
     good-part {o} valid part =
-        subst (λ (x : View S). Good S x) (sym (part .begins)) (good-run (fresh S o) (part .before) (good-fresh S o valid))
+        subst (λ (x : View S). Good S x) (sym (part .begins)) (good-run (fresh S o) (part .before) (good-fresh L o valid))
 
     -- and every call does what it should
     pub done-point : {o : Owner} {calls : List (Call S)} {v w : View S} {c : Call S} {a : Answer S} → Good S v

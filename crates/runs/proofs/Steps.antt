@@ -7,51 +7,53 @@ use mathlib.Core.Logic.{_↔_, ⊎-elim}
 use mathlib.Core.List.{List, [], _∷_, _++_, append-nil, Memᴰ·map, Memᴰ·cast, List·Memᴰ·append-cases, List·Memᴰ·eq-of-singleton}
 use lib.Dec.{lit<}
 use lib.ListN.{length}
+use Rattle.refusal.specs.Says.{Said, numberIn}
+use Rattle.refusal.specs.Outcome.{given, refusal}
 use Rattle.nearest.specs.Sorted.{_among_, distances}
 use Rattle.nearest.specs.Insert.{Order, less, same, more, order, insert, offer}
 use Rattle.nearest.proofs.Lists.{middle-self, length-middle}
 use Rattle.nearest.proofs.Sorted.{sorted-last, distances-front}
 use Rattle.nearest.proofs.Insert.{insert-only, insert-stays, insert-enters, insert-length}
 use Rattle.nearest.proofs.Offer.{offer-near}
-use Rattle.runs.specs.Setting.{Setting, value, refusal}
+use Rattle.runs.specs.Setting.{Setting, Laws}
 use Rattle.runs.specs.Views.{View, Call, store, remove, reload, Answer, refused, evicted, holding, Good, radius, Held, Gives}
 use Rattle.runs.specs.Done.{Admitted, Refused, broken, noKey, unfit, held, alike, beyond, noKeyOut, absent, badText, Taken, Done, refusing, storing, evicting, removing, reloading}
 use Rattle.runs.specs.Runs.{Accepted, NoReload, stores, evictions, removals}
 use Rattle.runs.proofs.Views.{radius-full, radius-cap, last-among, new-distance, among-held, good-without, good-insert}
 
-module _ (S : Setting) where
-  open Setting S using (Key, Owner, Raw, Content, Text, ValidKey, dist, cap, limit, keyIn, keyIn-valid, keyIn-number, fault-number)
+module _ {S : Setting} (L : Laws S) where
+  open Setting S using (Key, Owner, Raw, Content, Text, ValidKey, dist, cap, limit, keyIn)
 
   -- the bytes of a call are one key
-  pub same-key : {o : Owner} {raw : Raw} {j k : Key} → keyIn o raw ≡ value j → keyIn o raw ≡ value k → j ≡ k
+  pub same-key : {o : Owner} {raw : Raw} {j k : Key} → keyIn o raw ≡ given j → keyIn o raw ≡ given k → j ≡ k
   same-key p q = cc
 
   -- or none
-  pub key-or-none : {o : Owner} {raw : Raw} {k : Key} {r : ℕ} → keyIn o raw ≡ value k → keyIn o raw ≡ refusal r → ⊥
+  pub key-or-none : {o : Owner} {raw : Raw} {k : Key} {r : Said} → keyIn o raw ≡ given k → keyIn o raw ≡ refusal r → ⊥
   key-or-none p q = let z : _≡_ {A = ℕ} 0 1 = cc in omega arith
 
   -- no refusal of a view that keeps the rules has number 0
-  pub refused-number : {v : View S} {c : Call S} {r : ℕ} → Good S v → Refused S v c r → 0 < r
+  pub refused-number : {v : View S} {c : Call S} {r : Said} → Good S v → Refused S v c r → 0 < numberIn r
   refused-number good (broken bad) = absurd (bad good)
-  refused-number {v} good (noKey {raw = raw} {r = r} e) = keyIn-number (v .owner) raw r e
-  refused-number {v} good (unfit {content = content} {k = k} {r = r} e f) = fault-number (v .owner) k content r f
+  refused-number {v} good (noKey {raw = raw} {r = r} e) = L .keyIn-number (v .owner) raw r e
+  refused-number {v} good (unfit {content = content} {k = k} {r = r} e f) = L .fault-number (v .owner) k content r f
   refused-number good (held ad m) = lit< tt
   refused-number good (alike ad out h) = lit< tt
   refused-number good (beyond ad new h) = lit< tt
-  refused-number {v} good (noKeyOut {raw = raw} {r = r} e) = keyIn-number (v .owner) raw r e
+  refused-number {v} good (noKeyOut {raw = raw} {r = r} e) = L .keyIn-number (v .owner) raw r e
   refused-number good (absent e out) = lit< tt
-  refused-number good (badText none) = lit< tt
+  refused-number good (badText {t = t} {r = r} e) = L .textIn-number t r e
 
   -- a key that a store call takes: valid, within the cap and at a new distance
   module _ {v : View S} {raw : Raw} {content : Content} {k : Key} (good : Good S v) (taken : Taken S v raw content k) where
     pub taken-valid : ValidKey (v .owner) k
-    taken-valid = keyIn-valid (v .owner) raw k (taken .admitted .presented)
+    taken-valid = L .keyIn-valid (v .owner) raw k (taken .admitted .presented)
 
     pub taken-cap : dist (v .owner) k ≤ cap (v .owner)
-    taken-cap = omega (arith, taken .near, radius-cap S v good)
+    taken-cap = omega (arith, taken .near, radius-cap L v good)
 
     pub taken-new : ¬ (dist (v .owner) k among distances (dist (v .owner)) (v .keys))
-    taken-new = new-distance S v good k taken-valid (taken .new)
+    taken-new = new-distance L v good k taken-valid (taken .new)
 
     -- also to the keys before the last
     pub taken-front : (front : List Key) (far : Key) → v .keys ≡ front ++ far ∷ []
@@ -67,8 +69,8 @@ module _ (S : Setting) where
       where
         by : Order (dist (v .owner) k) (dist (v .owner) far) → dist (v .owner) k < dist (v .owner) far
         by (less h) = h
-        by (same p) = absurd (taken-new (Memᴰ·cast p (Memᴰ·map (dist (v .owner)) (last-among S v front far e))))
-        by (more h) = absurd (omega (arith, taken .near, radius-full S v front far (omega arith) e))
+        by (same p) = absurd (taken-new (Memᴰ·cast p (Memᴰ·map (dist (v .owner)) (last-among L v front far e))))
+        by (more h) = absurd (omega (arith, taken .near, radius-full L v front far (omega arith) e))
 
     -- so a step that makes room by cutting at the limit does the same
     pub evicting-offer : (front : List Key) (far : Key) → length (v .keys) ≡ limit (v .owner) → v .keys ≡ front ++ far ∷ []
@@ -85,12 +87,12 @@ module _ (S : Setting) where
   pub good-step : {v w : View S} {c : Call S} {a : Answer S} → Good S v → Done S v c w a → Good S w
   good-step good (refusing why) = good
   good-step {v} good (storing {k = k} taken room) =
-      good-insert S v good k (taken-valid good taken) (taken-cap good taken) room (taken-new good taken)
+      good-insert L v good k (taken-valid good taken) (taken-cap good taken) room (taken-new good taken)
   good-step {v} good (evicting {k = k} front far taken full e) =
-      let rest = subst (λ (l : List Key). Good S (holding S v l)) (append-nil front) (good-without S v good front far [] e) in
-      good-insert S (holding S v front) rest k (taken-valid good taken) (taken-cap good taken) (omega (arith, front-length front far e))
+      let rest = subst (λ (l : List Key). Good S (holding S v l)) (append-nil front) (good-without L v good front far [] e) in
+      good-insert L (holding S v front) rest k (taken-valid good taken) (taken-cap good taken) (omega (arith, front-length front far e))
       (taken-front good taken front far e)
-  good-step {v} good (removing {k = k} front back p e) = good-without S v good front k back e
+  good-step {v} good (removing {k = k} front back p e) = good-without L v good front k back e
   good-step good (reloading gives) = gives .1
 
   -- no accepted reload: the owner stays
@@ -113,21 +115,17 @@ module _ (S : Setting) where
   counts-step told good (reloading gives) n = absurd n
 
   -- a call on a view that keeps the rules is not refused with 0
-  pub number-step : {v w : View S} {c : Call S} {a : Answer S} → Good S v → Done S v c w a → ¬ (a ≡ refused 0)
-  number-step good (refusing {r = r} why) e = let z : r ≡ 0 = cc in omega (arith, refused-number good why)
-  number-step good (storing taken room) e = let z : _≡_ {A = ℕ} 0 1 = cc in omega arith
-  number-step good (evicting front far taken full p) e = let z : _≡_ {A = ℕ} 0 1 = cc in omega arith
-  number-step good (removing front back p q) e = let z : _≡_ {A = ℕ} 0 1 = cc in omega arith
-  number-step good (reloading gives) e = let z : _≡_ {A = ℕ} 0 1 = cc in omega arith
+  pub number-step : {v w : View S} {c : Call S} {r : Said} → Good S v → Done S v c w (refused r) → ¬ (numberIn r ≡ 0)
+  number-step good (refusing why) e = omega (arith, refused-number good why)
 
   -- a store call that presents a key not held, with acceptable content, is refused only beyond the radius
-  refused-beyond : {v : View S} {raw : Raw} {content : Content} {r : ℕ} {k : Key} → Good S v → Refused S v (store raw content) r
+  refused-beyond : {v : View S} {raw : Raw} {content : Content} {r : Said} {k : Key} → Good S v → Refused S v (store raw content) r
       → Admitted S (v .owner) raw content k → ¬ Held S v k → radius S v < dist (v .owner) k
   refused-beyond good (broken bad) ad new = absurd (bad good)
   refused-beyond good (noKey e) ad new = absurd (key-or-none (ad .presented) e)
   refused-beyond good (unfit e f) ad new = let z : _≡_ {A = ℕ} 0 1 = cc in absurd (omega arith)
   refused-beyond {v} {k} good (held {k = j} by m) ad new =
-      absurd (new (among-held S v good k (Memᴰ·cast (same-key (ad .presented) (by .presented)) m)))
+      absurd (new (among-held L v good k (Memᴰ·cast (same-key (ad .presented) (by .presented)) m)))
   refused-beyond {v} good (alike by out h) ad new =
       absurd (new (subst (λ (i : Key). Held S v i) (same-key (by .presented) (ad .presented)) h))
   refused-beyond {v} good (beyond by still h) ad new =
@@ -155,12 +153,12 @@ module _ (S : Setting) where
     where
       far-left : ¬ (far among insert (dist (v .owner)) k front)
       far-left m =
-          ⊎-elim (λ p. taken-new good taken (Memᴰ·map (dist (v .owner)) (Memᴰ·cast (sym p) (last-among S v front far e))))
+          ⊎-elim (λ p. taken-new good taken (Memᴰ·map (dist (v .owner)) (Memᴰ·cast (sym p) (last-among L v front far e))))
           (λ i. lt-irrefl (dist (v .owner) far) (sorted-last (dist (v .owner)) 0 front far (rw e at (good .sorted)) i))
           (insert-only (dist (v .owner)) k front m)
 
       left : _≡_ {A = Answer S} (evicted far) (evicted j) → (j among v .keys) × (¬ (j among insert (dist (v .owner)) k front))
-      left p = let q : j ≡ far = cc in (Memᴰ·cast q (last-among S v front far e), λ m. far-left (Memᴰ·cast (sym q) m))
+      left p = let q : j ≡ far = cc in (Memᴰ·cast q (last-among L v front far e), λ m. far-left (Memᴰ·cast (sym q) m))
 
       named : (j among v .keys) × (¬ (j among insert (dist (v .owner)) k front)) → _≡_ {A = Answer S} (evicted far) (evicted j)
       named p =
@@ -169,7 +167,7 @@ module _ (S : Setting) where
           (List·Memᴰ·append-cases front (rw e at (p .0)))
 
   -- a removal is refused only where its key is not held
-  refused-absent : {v : View S} {raw : Raw} {r : ℕ} {k : Key} → Good S v → Refused S v (remove raw) r → keyIn (v .owner) raw ≡ value k
+  refused-absent : {v : View S} {raw : Raw} {r : Said} {k : Key} → Good S v → Refused S v (remove raw) r → keyIn (v .owner) raw ≡ given k
       → ¬ (k among v .keys)
   refused-absent good (broken bad) p m = bad good
   refused-absent good (noKeyOut e) p m = key-or-none p e
@@ -177,22 +175,22 @@ module _ (S : Setting) where
 
   -- a removal is accepted exactly when its key is held
   pub removes-step : {v w : View S} {raw : Raw} {a : Answer S} → Good S v → Done S v (remove raw) w a
-      → Accepted S a ↔ ((k : Key) × (keyIn (v .owner) raw ≡ value k) × (k among v .keys))
+      → Accepted S a ↔ ((k : Key) × (keyIn (v .owner) raw ≡ given k) × (k among v .keys))
   removes-step good (refusing why) = (absurd, λ t. refused-absent good why (t .1) (t .2))
   removes-step good (removing {k = k} front back p e) = (λ u. (k, p, rw e (middle-self front k back)), λ t. tt)
 
   -- and takes out that key alone
   pub leaves-step : {v w : View S} {raw : Raw} {a : Answer S} {k : Key} → Done S v (remove raw) w a → Accepted S a
-      → keyIn (v .owner) raw ≡ value k
+      → keyIn (v .owner) raw ≡ given k
       → (front : List Key) × (back : List Key) × (v .keys ≡ front ++ k ∷ back) × (w ≡ holding S v (front ++ back))
   leaves-step (refusing why) accepted q = absurd accepted
   leaves-step {v} (removing front back p e) accepted q =
       (front, back, subst (λ (j : Key). v .keys ≡ front ++ j ∷ back) (same-key p q) e, refl)
 
   -- a reload is refused only where its text gives no view
-  refused-text : {v : View S} {t : Text} {r : ℕ} → Good S v → Refused S v (reload t) r → (u : View S) → ¬ Gives S t u
+  refused-text : {v : View S} {t : Text} {r : Said} → Good S v → Refused S v (reload t) r → (u : View S) → ¬ Gives S t u
   refused-text good (broken bad) u g = bad good
-  refused-text good (badText none) u g = none u g
+  refused-text good (badText e) u g = let h = g .0 in let z : _≡_ {A = ℕ} 0 1 = cc in omega arith
 
   -- a text gives one view
   pub gives-one : {t : Text} {u w : View S} → Gives S t u → Gives S t w → w ≡ u
@@ -205,5 +203,5 @@ module _ (S : Setting) where
   reloads-step {t} good (reloading gives) u = (λ g. (tt, gives-one g gives), λ p. subst (λ (x : View S). Gives S t x) (p .1) gives)
 
   -- a refused call leaves the view as it was
-  pub refuses-step : {v w : View S} {c : Call S} {r : ℕ} → Done S v c w (refused r) → w ≡ v
+  pub refuses-step : {v w : View S} {c : Call S} {r : Said} → Done S v c w (refused r) → w ≡ v
   refuses-step (refusing why) = refl

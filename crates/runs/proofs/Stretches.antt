@@ -8,18 +8,20 @@ use mathlib.Core.Logic.{_↔_, inl, inr, ⊎-elim}
 use mathlib.Core.List.{List, [], _∷_, _++_, Memᴰ·map, Memᴰ·of-map, Memᴰ·append-left, Memᴰ·append-right, List·Memᴰ·append-cases, List·Memᴰ·eq-of-singleton, List·Memᴰ·not-nil, List·Memᴰ·head as here}
 use mathlib.Core.Option.{some}
 use lib.ListN.{length}
+use Rattle.refusal.specs.Says.{Said}
+use Rattle.refusal.specs.Outcome.{given}
 use Rattle.nearest.specs.Sorted.{_among_}
 use Rattle.nearest.specs.Insert.{insert, offer, offerAll}
 use Rattle.nearest.proofs.Offer.{offer-held, offer-room, offer-far}
-use Rattle.runs.specs.Setting.{Setting, value}
+use Rattle.runs.specs.Setting.{Setting, Laws}
 use Rattle.runs.specs.Views.{View, Call, store, remove, reload, Answer, Good, radius}
 use Rattle.runs.specs.Done.{Admitted, Refused, broken, noKey, unfit, held, alike, beyond, Done, refusing, storing, evicting, removing, reloading}
 use Rattle.runs.specs.Runs.{Stretch, Presented}
 use Rattle.runs.proofs.Views.{radius-room, radius-full, full-split, held-distance}
 use Rattle.runs.proofs.Steps.{same-key, key-or-none, taken-cap, taken-new, taken-offer}
 
-module _ (S : Setting) where
-  open Setting S using (Key, Owner, Raw, Content, dist, cap, limit, keyIn, keyIn-valid, fault)
+module _ {S : Setting} (L : Laws S) where
+  open Setting S using (Key, Owner, Raw, Content, dist, cap, limit, keyIn, fault)
 
   -- the calls come to these keys offered, from the one list of keys to the other
   pub record Folded (o : Owner) (cs : List (Call S)) (start end : List Key) : Type 0 where
@@ -28,7 +30,7 @@ module _ (S : Setting) where
     pub folds : end ≡ offerAll (dist o) (limit o) offers start
 
   -- content with a fault is not acceptable
-  fault-or-none : {o : Owner} {raw : Raw} {content : Content} {j k : Key} {r : ℕ} → Admitted S o raw content k → keyIn o raw ≡ value j
+  fault-or-none : {o : Owner} {raw : Raw} {content : Content} {j k : Key} {r : Said} → Admitted S o raw content k → keyIn o raw ≡ given j
       → fault o j content ≡ some r → ⊥
   fault-or-none ad e f = let z : _≡_ {A = ℕ} 0 1 = cc in omega arith
 
@@ -46,7 +48,7 @@ module _ (S : Setting) where
   folded-one o raw content k start end ad h e = record {
     offers = k ∷ [];
     which = λ j. (
-      ⊎-elim (λ f. here (same-key S (f .0 .presented) (ad .presented))) absurd,
+      ⊎-elim (λ f. here (same-key L (f .0 .presented) (ad .presented))) absurd,
       λ m. subst (λ (i : Key). Presented S o (store raw content ∷ []) i) (sym (List·Memᴰ·eq-of-singleton m)) (inl (ad, h)),
     );
     folds = e;
@@ -79,24 +81,24 @@ module _ (S : Setting) where
           → v .keys ≡ offer (dist (v .owner)) (limit (v .owner)) k (v .keys)
       full front far u e =
           sym (offer-far (dist (v .owner)) k (limit (v .owner)) (v .keys) front far (good .sorted) (omega (arith, good .most)) e
-          (omega (arith, radius-full S v front far u e)))
+          (omega (arith, radius-full L v front far u e)))
 
       by : Dec (length (v .keys) < limit (v .owner)) → v .keys ≡ offer (dist (v .owner)) (limit (v .owner)) k (v .keys)
-      by (yes room) = absurd (omega (arith, radius-room S v room))
-      by (no u) = let t = full-split S v (omega arith) in full (t .0) (t .1) (omega arith) (t .2)
+      by (yes room) = absurd (omega (arith, radius-room L v room))
+      by (no u) = let t = full-split L v (omega arith) in full (t .0) (t .1) (omega arith) (t .2)
 
   -- a refused store call changes nothing, and what it offers would not have
-  folded-refused : {v : View S} {raw : Raw} {content : Content} {r : ℕ} → Good S v → Refused S v (store raw content) r
+  folded-refused : {v : View S} {raw : Raw} {content : Content} {r : Said} → Good S v → Refused S v (store raw content) r
       → Folded (v .owner) (store raw content ∷ []) (v .keys) (v .keys)
   folded-refused good (broken bad) = absurd (bad good)
-  folded-refused {v} good (noKey e) = folded-none (v .owner) _ (v .keys) (λ k. ⊎-elim (λ f. key-or-none S (f .0 .presented) e) absurd)
+  folded-refused {v} good (noKey e) = folded-none (v .owner) _ (v .keys) (λ k. ⊎-elim (λ f. key-or-none L (f .0 .presented) e) absurd)
   folded-refused {v} good (unfit e f) =
       folded-none (v .owner) _ (v .keys) (λ k. ⊎-elim (λ u. fault-or-none (u .0) e f) absurd)
   folded-refused {v} {raw} {content} good (held {k = k} ad m) =
       folded-one (v .owner) raw content k (v .keys) (v .keys) ad (good .within k m)
       (sym (offer-held (dist (v .owner)) k (limit (v .owner)) (v .keys) (good .sorted) (good .most) (Memᴰ·map (dist (v .owner)) m)))
   folded-refused {v} {raw} {content} good (alike {k = k} ad out h) =
-      let m = held-distance S v good k (keyIn-valid (v .owner) raw k (ad .presented)) h in
+      let m = held-distance L v good k (L .keyIn-valid (v .owner) raw k (ad .presented)) h in
       let t = Memᴰ·of-map (dist (v .owner)) (v .keys) m in
       folded-one (v .owner) raw content k (v .keys) (v .keys) ad (omega (arith, t .2, good .within (t .0) (t .1)))
       (sym (offer-held (dist (v .owner)) k (limit (v .owner)) (v .keys) (good .sorted) (good .most) m))
@@ -106,7 +108,7 @@ module _ (S : Setting) where
       by (yes g) = folded-one (v .owner) raw content k (v .keys) (v .keys) ad g (beyond-unchanged v k good h g)
       by (no g) =
           folded-none (v .owner) (store raw content ∷ []) (v .keys)
-          (λ j. ⊎-elim (λ f. g (rw (same-key S (f .0 .presented) (ad .presented)) at (f .1))) absurd)
+          (λ j. ⊎-elim (λ f. g (rw (same-key L (f .0 .presented) (ad .presented)) at (f .1))) absurd)
 
   -- one call of a stretch
   pub folded-step : {v w : View S} {c : Call S} {a : Answer S} (told : List (Answer S)) → Good S v → Done S v c w a → Stretch S (a ∷ told)
@@ -115,10 +117,10 @@ module _ (S : Setting) where
   folded-step {v} {c = remove raw} told good (refusing why) s = folded-none (v .owner) (remove raw ∷ []) (v .keys) (λ k. ⊎-elim absurd absurd)
   folded-step {v} {c = reload t} told good (refusing why) s = folded-none (v .owner) (reload t ∷ []) (v .keys) (λ k. ⊎-elim absurd absurd)
   folded-step {v} told good (storing {raw = raw} {content = content} {k = k} taken room) s =
-      folded-one (v .owner) raw content k (v .keys) (insert (dist (v .owner)) k (v .keys)) (taken .admitted) (taken-cap S good taken)
-      (sym (offer-room (dist (v .owner)) k (limit (v .owner)) (v .keys) room (taken-new S good taken)))
+      folded-one (v .owner) raw content k (v .keys) (insert (dist (v .owner)) k (v .keys)) (taken .admitted) (taken-cap L good taken)
+      (sym (offer-room (dist (v .owner)) k (limit (v .owner)) (v .keys) room (taken-new L good taken)))
   folded-step {v} told good (evicting {raw = raw} {content = content} {k = k} front far taken full e) s =
-      folded-one (v .owner) raw content k (v .keys) (insert (dist (v .owner)) k front) (taken .admitted) (taken-cap S good taken)
-      (sym (taken-offer S good taken front far full e))
+      folded-one (v .owner) raw content k (v .keys) (insert (dist (v .owner)) k front) (taken .admitted) (taken-cap L good taken)
+      (sym (taken-offer L good taken front far full e))
   folded-step told good (removing front back p e) s = absurd s
   folded-step told good (reloading gives) s = absurd s

@@ -14,11 +14,11 @@ use Rattle.nearest.proofs.Lists.{middle-self, middle-among, length-middle, last
 use Rattle.nearest.proofs.Sorted.{sorted-farthest, farthest-last}
 use Rattle.nearest.proofs.Remove.{sorted-without}
 use Rattle.nearest.proofs.Insert.{insert-sorted, insert-only, insert-length}
-use Rattle.runs.specs.Setting.{Setting}
+use Rattle.runs.specs.Setting.{Setting, Laws}
 use Rattle.runs.specs.Views.{View, fresh, holding, Good, radius, Held}
 
-module _ (S : Setting) where
-  open Setting S using (Key, Owner, ValidOwner, ValidKey, dist, cap, limit, limit-positive, same-distance)
+module _ {S : Setting} (L : Laws S) where
+  open Setting S using (Key, Owner, ValidOwner, ValidKey, dist, cap, limit)
 
   -- a fresh index keeps the rules
   pub good-fresh : (o : Owner) → ValidOwner o → Good S (fresh S o)
@@ -46,7 +46,7 @@ module _ (S : Setting) where
 
     -- a list that is not below the limit has a last key
     pub full-split : limit (v .owner) ≤ length (v .keys) → (front : List Key) × (far : Key) × (v .keys ≡ front ++ far ∷ [])
-    full-split h = last-split (v .keys) (omega (arith, limit-positive (v .owner)))
+    full-split h = last-split (v .keys) (omega (arith, L .limit-positive (v .owner)))
 
     -- which is held
     pub last-among : (front : List Key) (far : Key) → v .keys ≡ front ++ far ∷ [] → far among v .keys
@@ -76,18 +76,18 @@ module _ (S : Setting) where
       -- a key that is held, or counts as one that is, is at the distance of one that is
       pub held-distance : (k : Key) → ValidKey (v .owner) k → Held S v k → dist (v .owner) k among distances (dist (v .owner)) (v .keys)
       held-distance k valid h =
-          Memᴰ·cast (sym (same-distance (v .owner) (h .0) k (good .validOwner) (good .validKeys (h .0) (h .1)) valid .0 (h .2)))
+          Memᴰ·cast (sym (L .same-distance (v .owner) (h .0) k (good .validOwner) (good .validKeys (h .0) (h .1)) valid .0 (h .2)))
           (Memᴰ·map (dist (v .owner)) (h .1))
 
       -- and any other key is at a new distance
       pub new-distance : (k : Key) → ValidKey (v .owner) k → ¬ Held S v k → ¬ (dist (v .owner) k among distances (dist (v .owner)) (v .keys))
       new-distance k valid new m =
           let t = Memᴰ·of-map (dist (v .owner)) (v .keys) m in
-          new (t .0, t .1, same-distance (v .owner) (t .0) k (good .validOwner) (good .validKeys (t .0) (t .1)) valid .1 (t .2))
+          new (t .0, t .1, L .same-distance (v .owner) (t .0) k (good .validOwner) (good .validKeys (t .0) (t .1)) valid .1 (t .2))
 
       -- a key that is held counts as itself
       pub among-held : (k : Key) → k among v .keys → Held S v k
-      among-held k m = (k, m, same-distance (v .owner) k k (good .validOwner) (good .validKeys k m) (good .validKeys k m) .1 refl)
+      among-held k m = (k, m, L .same-distance (v .owner) k k (good .validOwner) (good .validKeys k m) (good .validKeys k m) .1 refl)
 
       -- without one of its keys, the view still keeps the rules
       pub good-without : (front : List Key) (k : Key) (back : List Key) → v .keys ≡ front ++ k ∷ back → Good S (holding S v (front ++ back))

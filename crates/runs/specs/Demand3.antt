@@ -1,12 +1,14 @@
 -- Demand 3: one claim about the whole list of calls.
-use Prim.Native.Nat.{ℕ, _+_, _≤_}
+use Prim.Native.Nat.{_+_, _≤_}
 use mathlib.Core.Path.{_≡_}
 use mathlib.Core.Logic.{_↔_}
 use mathlib.Core.List.{List, [], _∷_, _++_}
 use lib.ListN.{length}
+use Rattle.refusal.specs.Says.{Said, numberIn}
+use Rattle.refusal.specs.Outcome.{given}
 use Rattle.nearest.specs.Sorted.{_among_, Sorted}
 use Rattle.nearest.specs.Nearest.{Nearest}
-use Rattle.runs.specs.Setting.{Setting, value}
+use Rattle.runs.specs.Setting.{Setting}
 use Rattle.runs.specs.Views.{View, Call, store, remove, reload, Answer, refused, evicted, reloaded, fresh, holding, radius, Held, Gives}
 use Rattle.runs.specs.Done.{Admitted, Index}
 use Rattle.runs.specs.Runs.{Step, Part, Point, Accepted, NoReload, Stretch, stores, evictions, removals, count, Presented, Candidate, SameSet, SameKeys}
@@ -32,7 +34,7 @@ module _ (S : Setting) where
     -- 1. at each point the keys are in order,
     pub inOrder : {v w : View S} {cs : List (Call S)} {told : List (Answer S)} → Part S step o calls v cs w told → InOrder v
     -- and number 0 is never given
-    pub noZero : {v w : View S} {c : Call S} {a : Answer S} → Point S step o calls v c w a → ¬ (a ≡ refused 0)
+    pub noZero : {v w : View S} {c : Call S} {r : Said} → Point S step o calls v c w (refused r) → ¬ (numberIn r ≡ 0)
     -- 2. node id and cap are those of the fresh index before the first accepted reload,
     pub ownerFresh : {w : View S} {cs : List (Call S)} {told : List (Answer S)} → Part S step o calls (fresh S o) cs w told → NoReload S told
         → w .owner ≡ o
@@ -63,13 +65,13 @@ module _ (S : Setting) where
         → (j : Key) → (a ≡ evicted j) ↔ ((j among v .keys) × (¬ (j among w .keys)))
     -- 8. a removal is accepted exactly when its key is held
     pub removes : {v w : View S} {raw : Raw} {a : Answer S} → Point S step o calls v (remove raw) w a
-        → Accepted S a ↔ ((k : Key) × (keyIn (v .owner) raw ≡ value k) × (k among v .keys))
+        → Accepted S a ↔ ((k : Key) × (keyIn (v .owner) raw ≡ given k) × (k among v .keys))
     -- and takes out that key alone;
     pub leaves : {v w : View S} {raw : Raw} {a : Answer S} {k : Key} → Point S step o calls v (remove raw) w a → Accepted S a
-        → keyIn (v .owner) raw ≡ value k
+        → keyIn (v .owner) raw ≡ given k
         → (front : List Key) × (back : List Key) × (v .keys ≡ front ++ k ∷ back) × (w ≡ holding S v (front ++ back))
     -- a reload is accepted exactly when its text gives a view that keeps the rules, and leaves that view
     pub reloads : {v w : View S} {t : Text} {a : Answer S} → Point S step o calls v (reload t) w a
         → (u : View S) → Gives S t u ↔ (Accepted S a × (w ≡ u))
     -- 9. a refused call leaves the view as it was
-    pub refuses : {v w : View S} {c : Call S} {r : ℕ} → Point S step o calls v c w (refused r) → w ≡ v
+    pub refuses : {v w : View S} {c : Call S} {r : Said} → Point S step o calls v c w (refused r) → w ≡ v

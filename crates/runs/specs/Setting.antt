@@ -1,19 +1,16 @@
--- What an index is over: the parameters of the theory, and what is asked of them.
+-- What an index is over: the parameters of the theory, and the laws that are asked of them.
 use Prim.Native.Nat.{ℕ, _<_}
 use mathlib.Core.Path.{_≡_}
 use mathlib.Core.Logic.{_↔_}
 use mathlib.Core.List.{List}
 use mathlib.Core.Option.{Option, some}
+use Rattle.refusal.specs.Says.{Said, numberIn}
+use Rattle.refusal.specs.Outcome.{Outcome, given, refusal}
 
 -- what an index holds (document 01: a shelf): its owner, and the keys held, in order
 pub record ViewOf (Owner Key : Type 0) : Type 0 where
   pub owner : Owner
   pub keys : List Key
-
--- what some bytes are read as: a value, or the number of a refusal
-pub data Read (A : Type 0) : Type 0 where
-  value : A → Read A
-  refusal : ℕ → Read A
 
 pub record Setting : Type 1 where
   -- content keys
@@ -33,17 +30,27 @@ pub record Setting : Type 1 where
   pub cap : Owner → ℕ
   -- how many keys are held at most
   pub limit : Owner → ℕ
-  pub limit-positive : (o : Owner) → 0 < limit o
   -- the two count as one key: that is, they are equal, or, where ids may collide, they have one id
   pub Same : Owner → Key → Key → Type 0
-  -- keys count as one exactly when they are at one distance; where only equal keys count as one, different keys have different distances
-  pub same-distance : (o : Owner) (j k : Key) → ValidOwner o → ValidKey o j → ValidKey o k → Same o j k ↔ (dist o j ≡ dist o k)
   -- the key that bytes are, or the refusal 7 or 8
-  pub keyIn : Owner → Raw → Read Key
-  pub keyIn-valid : (o : Owner) (raw : Raw) (k : Key) → keyIn o raw ≡ value k → ValidKey o k
-  pub keyIn-number : (o : Owner) (raw : Raw) (r : ℕ) → keyIn o raw ≡ refusal r → 0 < r
+  pub keyIn : Owner → Raw → Outcome Key
   -- the refusal that stands against a store call of this key, 9, or none where its content is acceptable
-  pub fault : Owner → Key → Content → Option ℕ
-  pub fault-number : (o : Owner) (k : Key) (content : Content) (r : ℕ) → fault o k content ≡ some r → 0 < r
-  -- the view that a text is the saved form of, if any
-  pub textIn : Text → Option (ViewOf Owner Key)
+  pub fault : Owner → Key → Content → Option Said
+  -- the view that a text is the saved form of, or the refusal 14
+  pub textIn : Text → Outcome (ViewOf Owner Key)
+
+-- what is asked of a setting
+module _ (S : Setting) where
+  open Setting S using (Key, Owner, Raw, Content, Text, ValidOwner, ValidKey, dist, limit, Same, keyIn, fault, textIn)
+
+  pub record Laws : Type 0 where
+    -- there is room for a key
+    pub limit-positive : (o : Owner) → 0 < limit o
+    -- keys count as one exactly when they are at one distance; where only equal keys count as one, different keys have different distances
+    pub same-distance : (o : Owner) (j k : Key) → ValidOwner o → ValidKey o j → ValidKey o k → Same o j k ↔ (dist o j ≡ dist o k)
+    -- what is read as a key is one
+    pub keyIn-valid : (o : Owner) (raw : Raw) (k : Key) → keyIn o raw ≡ given k → ValidKey o k
+    -- no refusal has number 0, which is kept for an index that breaks its rules
+    pub keyIn-number : (o : Owner) (raw : Raw) (r : Said) → keyIn o raw ≡ refusal r → 0 < numberIn r
+    pub fault-number : (o : Owner) (k : Key) (content : Content) (r : Said) → fault o k content ≡ some r → 0 < numberIn r
+    pub textIn-number : (t : Text) (r : Said) → textIn t ≡ refusal r → 0 < numberIn r

@@ -3,9 +3,10 @@ use Prim.Native.Nat.{ℕ, _≤_}
 use mathlib.Core.Path.{_≡_}
 use mathlib.Core.Bool.{cond}
 use mathlib.Core.List.{List, []}
-use mathlib.Core.Option.{some}
 use lib.Dec.{ltb}
 use lib.ListN.{length}
+use Rattle.refusal.specs.Says.{Said}
+use Rattle.refusal.specs.Outcome.{given}
 use Rattle.nearest.specs.Sorted.{_among_, Sorted, farthest}
 use Rattle.runs.specs.Setting.{Setting, ViewOf}
 
@@ -21,9 +22,9 @@ module _ (S : Setting) where
     remove : Raw → Call
     reload : Text → Call
 
-  -- a refusal with its number, or what an accepted call says: a store names the key that it evicts (document 01: turned out), if any
+  -- what a refusal says, or what an accepted call says: a store names the key that it evicts (document 01: turned out), if any
   pub data Answer : Type 0 where
-    refused : ℕ → Answer
+    refused : Said → Answer
     stored : Answer
     evicted : Key → Answer
     removed : Answer
@@ -55,4 +56,4 @@ module _ (S : Setting) where
 
   -- the text gives this view, which keeps the rules
   abbrev pub Gives : Text → View → Type 0
-  Gives t w = (textIn t ≡ some w) × Good w
+  Gives t w = (textIn t ≡ given w) × Good w

@@ -11,7 +11,8 @@ use lib.ListN.{length, take, drop, length-drop, drop-of-length-le}
 use lib.Seq.{append-snoc, take-at, drop-at, drop-drop, take-all, length-take-le, paste, length-paste}
 use Rattle.octets.specs.Bytes.{be}
 use Rattle.refusal.specs.declared.Checked.the-variants.{Refused}
-use Rattle.refusal.specs.declared.Refusal.the-variants.{BadIndex, BadSnapshot}
+use Rattle.refusal.specs.Says.{only}
+use Rattle.refusal.specs.declared.Refusal.the-variants.{BadSnapshot}
 use Rattle.key_index.specs.declared.KeyIndex.{KeyIndex}
 use Rattle.key_index.specs.View.{View, view, chunks, freshOf, withKeys}
 use Rattle.key_index.specs.Good.{awayFrom, good}
@@ -204,8 +205,8 @@ accepted-as index text node cap keys count fresh f l =
 
 -- what `reload` answers for a bad index, and for a good one
 module _ (limit : ℕ) (index : KeyIndex) (text : List ℕ) where
-  pub reload-bad : good limit (view index) ≡ false → back BadIndex index ≡ reloadFor limit index text
-  reload-bad g = sym (ap (λ (b : Bool). cond b (reloadedBy index (loadOf limit text)) (back BadIndex index)) g)
+  pub reload-bad : good limit (view index) ≡ false → back (only 0) index ≡ reloadFor limit index text
+  reload-bad g = sym (ap (λ (b : Bool). cond b (reloadedBy index (loadOf limit text)) (back (only 0) index)) g)
 
   pub reload-good : good limit (view index) ≡ true → reloadedBy index (loadOf limit text) ≡ reloadFor limit index text
-  reload-good g = sym (ap (λ (b : Bool). cond b (reloadedBy index (loadOf limit text)) (back BadIndex index)) g)
+  reload-good g = sym (ap (λ (b : Bool). cond b (reloadedBy index (loadOf limit text)) (back (only 0) index)) g)

@@ -14,7 +14,8 @@ use Rattle.refusal.specs.Buffer.{Writes}
 use Rattle.refusal.specs.declared.Refusal.the-variants.{BadIndex, ShortBuffer}
 use Rattle.refusal.specs.declared.Wrote.the-variants.{Bytes, Refused}
 use Rattle.hex.specs.Digits.{textOf}
-use Rattle.hex.specs.Buffer.{placed, encodedTo}
+use Rattle.octets.specs.Buffer.{placed}
+use Rattle.hex.specs.Buffer.{encodedTo}
 use Rattle.hex.proofs.Texts.{length-text, text-append}
 use Rattle.key_index.specs.View.{View, chunks, keyAt}
 use Rattle.key_index.specs.Good.{good}

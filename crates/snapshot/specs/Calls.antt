@@ -4,11 +4,10 @@ use mathlib.Core.Bool.{cond}
 use mathlib.Core.List.{List}
 use lib.Dec.{leb}
 use lib.ListN.{length}
+use Rattle.refusal.specs.Says.{Said, only, atLine, saysOf}
 use Rattle.refusal.specs.Outcome.{Outcome, given, refused}
 use Rattle.refusal.specs.declared.Checked.{Checked}
 use Rattle.refusal.specs.declared.Checked.the-variants.{Accepted, Refused}
-use Rattle.refusal.specs.declared.Refusal.{Refusal}
-use Rattle.refusal.specs.declared.Refusal.the-variants.{BadIndex, BadSnapshot}
 use Rattle.key_index.specs.View.{View, view}
 use Rattle.key_index.specs.Good.{good}
 use Rattle.key_index.specs.declared.KeyIndex.{KeyIndex}
@@ -23,20 +22,20 @@ saveOf limit v room =
 
 -- what a reload call comes to: refused, with the very index handed in, or a view
 pub data Reloading : Type 0 where
-  back : Refusal → KeyIndex → Reloading
+  back : Said → KeyIndex → Reloading
   now : View → Reloading
 
 abbrev pub reloadedBy : KeyIndex → Loading → Reloading
-reloadedBy index (badLine line) = back (BadSnapshot line) index
+reloadedBy index (badLine line) = back (atLine 14 line) index
 reloadedBy index (loaded v) = now v
 
 -- what a call at a limit must answer: 0 for an index that breaks its rules, then 14 with its line
 abbrev pub reloadFor : ℕ → KeyIndex → List ℕ → Reloading
-reloadFor limit index text = cond (good limit (view index)) (reloadedBy index (loadOf limit text)) (back BadIndex index)
+reloadFor limit index text = cond (good limit (view index)) (reloadedBy index (loadOf limit text)) (back (only 0) index)
 
 abbrev pub answeredBy : KeyIndex → Checked → Reloading
 answeredBy index Accepted = now (view index)
-answeredBy index (Refused why) = back why index
+answeredBy index (Refused why) = back (saysOf why) index
 
 -- what an answer of `reload` stands for
 abbrev pub meaningOf : ReloadAnswer → Reloading

@@ -5,7 +5,7 @@ use denote.Ref.{now}
 use mathlib.Core.Path.{sym, _∙_, ap}
 use Rattle.refusal.specs.Outcome.{given, orZeros}
 use Rattle.content_key.proofs.Keys.{key-length, key-selector, key-given}
-use Rattle.octets.proofs.Listed.{listed-all}
+use Rattle.octets.proofs.Parts.{bytes-at-all}
 use Rattle.content_key.proofs.key.Statement.{statement}
 use Rattle.content_key.proofs.key.Tie as tie
 
@@ -54,7 +54,7 @@ returns-3 c =
     let s = c .before .before .before .before .before .before .before .before .before .before .before .before .args .bytes in
     let n = c .before .before .before .before .before .before .before .before .before .before .before .if1 .left in
     let e = key-given (now s) n (c .before .before .before .before .before .before .before .before .before .if2 .left) in
-    let l = listed-all 9 (now s) n in
+    let l = bytes-at-all 9 (now s) n in
     (ap given l ∙ sym e, l ∙ ap (orZeros 9) (sym e))
 
 pub key-spec : {M : Type 1} → statement M

@@ -8,7 +8,8 @@ use borrow.Author.Needs.{needs}
 use lib.ListN.{length, length-set}
 use lib.Seq.{paste, paste-zero}
 use Rattle.hex.specs.Digits.{textOf}
-use Rattle.hex.proofs.Passes.{put-text, refused, accepted, past-end, too-long, fits}
+use Rattle.octets.proofs.Buffers.{past-end}
+use Rattle.hex.proofs.Passes.{put-text, refused, accepted, no-place}
 use Rattle.hex.proofs.encode.Statement.{statement}
 use Rattle.hex.proofs.encode.Tie as tie
 
@@ -26,7 +27,7 @@ abbrev μ-loop : tie.MeasureT-loop
 returns : tie.Need-returns Inv-loop μ-loop
 returns c =
     let a = c .before .before .before .args in
-    refused (a .out .now) (a .at) (a .bytes .now) (past-end (a .out .now) (a .at) (a .bytes .now) (search needs))
+    refused (a .out .now) (a .at) (a .bytes .now) (past-end (a .out .now) (a .at) (textOf (a .bytes .now)) (search needs))
 
 sub-if2 : tie.Need-sub-if2 Inv-loop μ-loop
 sub-if2 c = search needs
@@ -34,7 +35,7 @@ sub-if2 c = search needs
 returns-2 : tie.Need-returns-2 Inv-loop μ-loop
 returns-2 c =
     let a = c .before .before .before .before .args in
-    refused (a .out .now) (a .at) (a .bytes .now) (too-long (a .out .now) (a .at) (a .bytes .now) (search needs) (search needs))
+    refused (a .out .now) (a .at) (a .bytes .now) (no-place (a .out .now) (a .at) (a .bytes .now) (search needs) (search needs))
 
 loop-holds : tie.Need-loop-holds Inv-loop μ-loop
 loop-holds c =
@@ -95,8 +96,7 @@ same-length c = search needs
 returns-3 : tie.Need-returns-3 Inv-loop μ-loop
 returns-3 c =
     let a = c .before .before .before .before .before .before .args in
-    let room = fits (a .out .now) (a .at) (a .bytes .now) (search needs) in
-    let done = accepted (a .out .now) (a .at) (a .bytes .now) (c .before .loop .i) (search needs) room in
+    let done = accepted (a .out .now) (a .at) (a .bytes .now) (c .before .loop .i) (search needs) (search needs) in
     (done .0, c .before .loop .inv .4 ∙ done .1)
 
 pub encode-spec : {M : Type 1} → statement M

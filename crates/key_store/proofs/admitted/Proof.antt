@@ -3,6 +3,7 @@
 use mathlib.Core.Path.{_≡_, sym, _∙_}
 use mathlib.Core.Bool.{Bool, false}
 use lib.Dec.{leb}
+use Rattle.refusal.specs.Says.{only}
 use borrow.Author.Tests.{not-true, not-false}
 use Rattle.octets.specs.Bytes.{be}
 use Rattle.key_index.specs.View.{view}
@@ -38,7 +39,7 @@ refused-requires c κs = search needs
 returns : tie.Need-returns
 returns c =
     let a = c .before .before .before .before .before .before .before .args in
-    answer-as (a .t1) (c .refused .result) (refused 11) (admitOf 240 (view (a .t1)) (a .key)) (c .refused .ensures)
+    answer-as (a .t1) (c .refused .result) (refused (only 11)) (admitOf 240 (view (a .t1)) (a .key)) (c .refused .ensures)
     (admit-held 240 (view (a .t1)) (a .key) (at-held _ _ _ (sym (c .before .before .before .find .ensures) ∙ c .before .enum-told .given .1)))
 
 enum-told-2 : tie.Need-enum-told-2
@@ -59,7 +60,7 @@ refused-requires-2 c κs = search needs
 returns-2 : tie.Need-returns-2
 returns-2 c =
     let a = c .before .before .before .before .before .before .before .before .before .before .before .before .args in
-    answer-as (a .t1) (c .refused2 .result) (refused 10) (admitOf 240 (view (a .t1)) (a .key)) (c .refused2 .ensures)
+    answer-as (a .t1) (c .refused2 .result) (refused (only 10)) (admitOf 240 (view (a .t1)) (a .key)) (c .refused2 .ensures)
     (admit-far 240 (view (a .t1)) (a .key) (out (c .before .before .before .before .before .before)) (near (c .before .before) _ (not-true _ (c .before .if1 .taken))))
 
 put-requires : tie.Need-put-requires

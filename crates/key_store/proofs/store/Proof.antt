@@ -3,6 +3,7 @@ use mathlib.Core.Path.{_≡_, sym, _∙_}
 use mathlib.Core.Bool.{true}
 use denote.Ref.{now}
 use borrow.Author.Tests.{not-true, not-false}
+use Rattle.refusal.specs.Says.{only}
 use Rattle.refusal.specs.Outcome.{given}
 use Rattle.refusal.proofs.Outcomes.{was-given, was-refused}
 use Rattle.content_key.specs.Key.{keyOf}
@@ -32,7 +33,7 @@ returns : tie.Need-returns
 returns c =
     let a = c .before .before .before .before .before .args in
     let v = view (a .index) in
-    answer-as (a .index) (c .refused .result) (refused 0) (storeOf 240 v (now (a .bytes)) (now (a .content))) (c .refused .ensures)
+    answer-as (a .index) (c .refused .result) (refused (only 0)) (storeOf 240 v (now (a .bytes)) (now (a .content))) (c .refused .ensures)
     (store-bad 240 v (now (a .bytes)) (now (a .content)) (sym (c .before .before .is-good .ensures) ∙ not-true _ (c .before .if1 .taken)))
 
 key-requires : tie.Need-key-requires

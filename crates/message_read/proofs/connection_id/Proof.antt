@@ -1,6 +1,6 @@
 -- `message_read::connection_id` meets its contract: four bytes written out. Assumes nothing.
 use borrow.Author.Needs.{needs}
-use Rattle.message_read.proofs.Lists.{listed-take}
+use Rattle.octets.proofs.Parts.{bytes-at-part}
 use Rattle.message_read.proofs.connection_id.Statement.{statement}
 use Rattle.message_read.proofs.connection_id.Tie as tie
 
@@ -19,7 +19,7 @@ shared-slice-read-t9 c = search needs
 returns : tie.Need-returns
 returns c =
     let at = c .before .before .before .before in
-    listed-take 4 1 (at .args .message .now) (at .pre)
+    bytes-at-part 4 1 (at .args .message .now) (at .pre)
 
 pub connection-id-spec : {M : Type 1} → statement M
 connection-id-spec =

@@ -3,7 +3,7 @@ use Prim.Native.Nat.{ℕ}
 use mathlib.Core.Path.{ap₂, _∙_}
 use mathlib.Core.List.{List, _∷_, _++_}
 use Rattle.octets.specs.Bytes.{leBytes}
-use Rattle.octets.proofs.Listed.{listed-all}
+use Rattle.octets.proofs.Parts.{bytes-at-all}
 use Rattle.message.specs.Encode.{offset}
 use borrow.Author.Needs.{needs}
 use Rattle.message_write.proofs.content_head.Statement.{statement}
@@ -43,8 +43,8 @@ returns : tie.Need-returns
 unfolding leBytes
 returns c =
     let to = c .offset-bytes .result in
-    ap₂ (λ (x y : List ℕ). 6 ∷ (x ++ offset 12 ++ y)) (listed-all 4 (c .before .args .t1) (search needs))
-    (listed-all 4 to (search needs) ∙ c .offset-bytes .ensures)
+    ap₂ (λ (x y : List ℕ). 6 ∷ (x ++ offset 12 ++ y)) (bytes-at-all 4 (c .before .args .t1) (search needs))
+    (bytes-at-all 4 to (search needs) ∙ c .offset-bytes .ensures)
 
 pub content-head-spec : {M : Type 1} → statement M
 content-head-spec =

@@ -2,7 +2,7 @@
 use native.Mathlib.Omega.{arith}
 use mathlib.Core.Path.{ap}
 use Rattle.octets.specs.Bytes.{le}
-use Rattle.octets.proofs.Listed.{listed-all}
+use Rattle.octets.proofs.Parts.{bytes-at-all}
 use borrow.Author.Needs.{needs}
 use Rattle.message_write.proofs.number.Statement.{statement}
 use Rattle.message_write.proofs.number.Tie as tie
@@ -53,7 +53,7 @@ returns : tie.Need-returns
 unfolding le
 returns c =
     let four = c .before .before .before .before .args .t1 in
-    omega (arith, ap le (listed-all 4 four (search needs)))
+    omega (arith, ap le (bytes-at-all 4 four (search needs)))
 
 pub number-spec : {M : Type 1} → statement M
 number-spec =

@@ -3,7 +3,7 @@ use Prim.Native.Nat.{ℕ}
 use mathlib.Core.Path.{ap}
 use mathlib.Core.List.{List, _∷_, _++_}
 use Rattle.octets.specs.Bytes.{leBytes}
-use Rattle.octets.proofs.Listed.{listed-all}
+use Rattle.octets.proofs.Parts.{bytes-at-all}
 use Rattle.message.specs.Encode.{offset}
 use borrow.Author.Needs.{needs}
 use Rattle.message_write.proofs.store_head.Statement.{statement}
@@ -23,7 +23,7 @@ array-read-t14 c = search needs
 
 returns : tie.Need-returns
 unfolding leBytes
-returns c = ap (λ (l : List ℕ). 9 ∷ (l ++ offset 8)) (listed-all 4 (c .args .t1) (search needs))
+returns c = ap (λ (l : List ℕ). 9 ∷ (l ++ offset 8)) (bytes-at-all 4 (c .args .t1) (search needs))
 
 pub store-head-spec : {M : Type 1} → statement M
 store-head-spec =

@@ -3,7 +3,7 @@ use denote.Ref.{now}
 use mathlib.Core.Path.{sym, _∙_}
 use native.Mathlib.Omega.{arith}
 use borrow.Author.Needs.{needs}
-use Rattle.hex.proofs.Passes.{room-ends}
+use Rattle.hex.proofs.Passes.{text-ends}
 use Rattle.console_text.proofs.answer.digits.Statement.{statement}
 use Rattle.console_text.proofs.answer.digits.Tie as tie
 
@@ -16,7 +16,7 @@ mul-result c = search needs
 add-result : tie.Need-add-result
 add-result c =
     let a = c .before .before .before .before .before .before .before .args in
-    omega (arith, room-ends (now (a .out)) (a .at) (now (a .bytes)) (sym (c .before .before .before .encode .ensures .0) ∙ c .if1 .taken))
+    omega (arith, text-ends (now (a .out)) (a .at) (now (a .bytes)) (sym (c .before .before .before .encode .ensures .0) ∙ c .if1 .taken))
 
 same-length : tie.Need-same-length
 same-length c = search needs

@@ -56,13 +56,17 @@ module _ (d : List ℕ) (at : ℕ) (bytes : List ℕ) where
       ∙ ap (λ (l : List ℕ). take at d ++ l ++ drop (at + length bytes) d) (take-length bytes)
       ∙ placed-by true (fits h)
 
--- one step of a copy that fills an array from its front
+-- one step of a copy
+pub pasted-next : (d e s : List ℕ) (at j v : ℕ) → at + j < length e → j < length s → v ≡ getD s j 0 → d ≡ paste e at s j
+    → set d (at + j) v ≡ paste e at s (j + 1)
+pasted-next d e s at j v l k is q =
+    ap₂ (λ (x : List ℕ) (w : ℕ). set x (at + j) w) q is
+    ∙ paste-suc e at s j 0 l k
+    ∙ ap (λ (n : ℕ). paste e at s n) (sym (add-one j))
+
+-- one that fills an array from its front
 pub copied-next : (d e s : List ℕ) (j v : ℕ) → j < length e → j < length s → v ≡ getD s j 0 → d ≡ paste e 0 s j → set d j v ≡ paste e 0 s (j + 1)
-copied-next d e s j v l k is q =
-    ap₂ (λ (x : List ℕ) (w : ℕ). set x j w) q is
-    ∙ ap (λ (n : ℕ). set (paste e 0 s j) n (getD s j 0)) (sym (zero-add j))
-    ∙ paste-suc e 0 s j 0 (omega arith) k
-    ∙ ap (λ (n : ℕ). paste e 0 s n) (sym (add-one j))
+copied-next d e s j v l k is q = ap (λ (n : ℕ). set d n v) (sym (zero-add j)) ∙ pasted-next d e s 0 j v (omega arith) k is q
 
 -- at its end nothing of the first array is left
 pub copied-all : (e s : List ℕ) (j : ℕ) → length e ≤ j → length s ≤ j → paste e 0 s j ≡ s

@@ -94,18 +94,18 @@ fn byte(bytes: &[u8], from: usize, i: usize) -> u8
 pub fn part4(bytes: &[u8], from: usize) -> [u8; 4]
     ensures { λ r. ⌜ r ≡ bytesAt 4 from (now (bytes .entry)) ⌝ }
 {
-    let mut part = [0u8; 4];
-    fill(bytes, from, &mut part);
-    part
+    let mut four = [0u8; 4];
+    fill(bytes, from, &mut four);
+    four
 }
 
 // Nine bytes from index `from` on; those past the end are 0.
 pub fn part9(bytes: &[u8], from: usize) -> [u8; 9]
     ensures { λ r. ⌜ r ≡ bytesAt 9 from (now (bytes .entry)) ⌝ }
 {
-    let mut part = [0u8; 9];
-    fill(bytes, from, &mut part);
-    part
+    let mut nine = [0u8; 9];
+    fill(bytes, from, &mut nine);
+    nine
 }
 
 // 32 bytes from index `from` on; those past the end are 0.

@@ -2,7 +2,7 @@
 -- step of a copy. The measure is what is left of the buffer. Assumes nothing.
 use Prim.Native.Nat.{_-_, _≤_}
 use native.Mathlib.Omega.{arith}
-use mathlib.Core.Path.{_≡_, sym, _∙_}
+use mathlib.Core.Path.{_≡_, _∙_}
 use lib.ListN.{length, length-set}
 use lib.Seq.{paste, paste-zero}
 use borrow.Author.Needs.{needs}
@@ -47,7 +47,7 @@ loop-again c =
       simp length-set (search needs),
       copied-next (at .loop .out) (a .out .now) (bytesAt n (a .from) (a .bytes .now)) i _ (search needs)
           (omega (arith, bytes-at-length n (a .from) (a .bytes .now), at .loop .inv .0))
-          (c .byte .ensures ∙ sym (bytes-at-get n (a .from) (a .bytes .now) i (search needs))) (at .loop .inv .3),
+          (omega (arith, c .byte .ensures, bytes-at-get n (a .from) (a .bytes .now) i (search needs))) (at .loop .inv .3),
     )
 
 same-length : tie.Need-same-length Inv-loop μ-loop

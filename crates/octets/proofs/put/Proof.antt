@@ -1,14 +1,11 @@
 -- `octets::put` meets its contract. The invariant: the first `i` bytes stand in the buffer from `at` on (`paste`). The measure is what is
 -- left of them. Assumes nothing.
-use Prim.Native.Nat.{ℕ, _+_, _-_, _≤_}
-use native.Mathlib.Numerals.{add-one}
-use native.Mathlib.Omega.{arith}
-use mathlib.Core.List.{List}
-use mathlib.Core.Path.{_≡_, _∙_, ap, sym}
-use lib.ListN.{length, getD, set, length-set}
-use lib.Seq.{paste, paste-zero, paste-suc}
+use Prim.Native.Nat.{_+_, _-_, _≤_}
+use mathlib.Core.Path.{_≡_, _∙_, sym}
+use lib.ListN.{length, length-set}
+use lib.Seq.{paste, paste-zero}
 use borrow.Author.Needs.{needs}
-use Rattle.octets.proofs.Buffers.{past-end, too-long, fits, not-placed, placed-all}
+use Rattle.octets.proofs.Buffers.{past-end, too-long, fits, not-placed, placed-all, pasted-next}
 use Rattle.octets.proofs.put.Statement.{statement}
 use Rattle.octets.proofs.put.Tie as tie
 
@@ -67,9 +64,7 @@ loop-again c =
       search needs,
       search needs,
       simp length-set (search needs),
-      ap (λ (q : List ℕ). set q (a .at + i) (getD (a .bytes .now) i 0)) (at .loop .inv .4)
-          ∙ paste-suc (a .out .now) (a .at) (a .bytes .now) i 0 (search needs) (search needs)
-          ∙ ap (paste (a .out .now) (a .at) (a .bytes .now)) (sym (add-one i)),
+      pasted-next (at .loop .out) (a .out .now) (a .bytes .now) (a .at) i _ (search needs) (search needs) (search needs) (at .loop .inv .4),
     )
 
 same-length : tie.Need-same-length Inv-loop μ-loop

@@ -48,7 +48,7 @@ loop-again c =
       (
         omega arith,
         copied-next (at .loop .out) (replicate 32 0) (reverse bytes) (at .loop .i) _ (search needs) (omega (arith, length-reverse bytes, l))
-            (sym (reverse-at bytes (at .loop .i) (at .loop .from - 1) (omega (arith, l)))) (at .loop .inv .1 .1),
+            (sym (reverse-at bytes (at .loop .i) _ (omega (arith, l)))) (at .loop .inv .1 .1),
       ),
     )
 

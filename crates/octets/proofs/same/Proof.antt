@@ -1,6 +1,7 @@
 -- `octets::same` meets its contract. The invariant: the test of the whole is the test of what is left; a byte that differs decides it, an
 -- equal one leaves it to the rest. The measure is what is left of the first. Assumes nothing.
 use Prim.Native.Nat.{_-_, _≤_}
+use native.Mathlib.Omega.{arith}
 use mathlib.Core.Path.{_≡_, sym, _∙_}
 use lib.ListN.{length, drop}
 use borrow.Author.Needs.{needs}
@@ -16,7 +17,7 @@ abbrev μ-loop : tie.MeasureT-loop
 μ-loop a b i₀ i-end i = length a - i
 
 returns : tie.Need-returns Inv-loop μ-loop
-returns c = let a = c .before .args in sym (differ-length (a .a .now) (a .b .now) (c .if1 .taken))
+returns c = let a = c .before .args in sym (differ-length (a .a .now) (a .b .now) (λ e. omega (arith, c .if1 .taken)))
 
 loop-holds : tie.Need-loop-holds Inv-loop μ-loop
 loop-holds c = search needs
@@ -32,7 +33,7 @@ returns-2 c =
     let at = c .before .before .before .before in
     let a = at .before .before .args in
     let i = at .loop .inv in
-    sym (i .1 .1 .1 ∙ same-here (a .a .now) (a .b .now) (i .1 .1 .0) (at .loop .i) (search needs) (c .if2 .taken))
+    sym (i .1 .1 .1 ∙ same-here (a .a .now) (a .b .now) (i .1 .1 .0) (at .loop .i) (search needs) (λ e. omega (arith, c .if2 .taken)))
 
 add-i : tie.Need-add-i Inv-loop μ-loop
 add-i c = search needs
@@ -45,7 +46,7 @@ loop-again c =
     let at = c .before .before .before .before in
     let a = at .before .before .args in
     let i = at .loop .inv in
-    (search needs, (i .1 .0, (i .1 .1 .0, i .1 .1 .1 ∙ same-later (a .a .now) (a .b .now) (i .1 .1 .0) (at .loop .i) (search needs) (c .if2 .left))))
+    (search needs, (i .1 .0, (i .1 .1 .0, i .1 .1 .1 ∙ same-later (a .a .now) (a .b .now) (i .1 .1 .0) (at .loop .i) (search needs) (omega (arith, c .if2 .left)))))
 
 returns-3 : tie.Need-returns-3 Inv-loop μ-loop
 returns-3 c =

@@ -110,7 +110,7 @@ def contents(stream):
 def no_calls(stream):
     """Lines that are no call, some of them too long, with good ones after them."""
     good = distance_line(1, 3)
-    lines = [b'', b' ', b'-', b'id', b'id ', b' id 00', b'id  00', b'id 00 ', b'id 00 00', b'id 0', b'id zz', b'ID 00', b'id\t00', b'id 0A', b'ids 00']
+    lines = [b'help', b'help ', b'help help', b'Help', b'help -', b'', b' ', b'-', b'id', b'id ', b' id 00', b'id  00', b'id 00 ', b'id 00 00', b'id 0', b'id zz', b'ID 00', b'id\t00', b'id 0A', b'ids 00']
     lines += [b'distance', b'distance 00 00', good[:-1], good + b'0', good + b' ', good + b' 00', good.replace(b' ', b'  '), good.upper()]
     lines += [b'fresh', b'fresh 00 00', b'store', b'store 00', b'store 00 00 00', b'store  -', b'remove', b'remove 00 00', b'radius ', b'radius 0', b'keys -', b'keys ']
     lines += [b'distance - -', b'interested - - -', b'interested ' + b'00' * 32, b'interested ' + b'00' * 33 + b' ' + b'00' * 31 + b' 00']

@@ -60,6 +60,20 @@ def message_values(name, words):
     return [values[at] for at in range(len(fields))]
 
 
+# how each message is written in words; the fields that are lists of records come last
+MESSAGE_WORDS = [
+    'ping RADIUS',
+    'pong RADIUS',
+    'findnode DISTANCES',
+    'foundnodes TOTAL RECORD ..',
+    'findcontent KEY',
+    'foundcontent CONNECTION CONTENT RECORD ..',
+    'offer KEY',
+    'accept KEY',
+    'store CONNECTION CONTENT',
+]
+
+
 class Console:
     def __init__(self):
         self.index, self.room = Index(0, 2**256 - 1), LONGEST
@@ -124,29 +138,37 @@ class Console:
         self.index = load(b'' if text == b'-' else text.replace(b'|', b'\n'))
         return 'loaded'
 
-    # each call's word, its function, and how many words follow
+    def help(self):
+        named = []
+        for name, (call, words) in self.CALLS.items():
+            forms = MESSAGE_WORDS if words is None else [words]
+            named.append(', '.join(' '.join([name.decode(), form]).strip() for form in forms))
+        return 'help: ' + '; '.join(named)
+
+    # each call's word, its function, and the words that follow: those of a message for `write`
     CALLS = {
-        b'id': (id, 1),
-        b'distance': (distance, 2),
-        b'interested': (interested, 3),
-        b'content': (content, 1),
-        b'read': (read, 1),
+        b'id': (id, 'KEY'),
+        b'distance': (distance, 'A B'),
+        b'interested': (interested, 'NODE RADIUS KEY'),
+        b'content': (content, 'BYTES'),
+        b'read': (read, 'MESSAGE'),
         b'write': (write, None),
-        b'buffer': (buffer, 1),
-        b'fresh': (fresh, 2),
-        b'store': (store, 2),
-        b'remove': (remove, 1),
-        b'radius': (radius, 0),
-        b'keys': (keys, 0),
-        b'save': (save, 0),
-        b'load': (load, 1),
+        b'buffer': (buffer, 'N'),
+        b'fresh': (fresh, 'NODE CAP'),
+        b'store': (store, 'KEY CONTENT'),
+        b'remove': (remove, 'KEY'),
+        b'radius': (radius, ''),
+        b'keys': (keys, ''),
+        b'save': (save, ''),
+        b'load': (load, 'TEXT'),
+        b'help': (help, ''),
     }
 
     def answer(self, line):
         name, *words = line.split(b' ')
-        call, count = self.CALLS.get(name, (None, None))
+        call, form = self.CALLS.get(name, (None, None))
         try:
-            if call is None or count not in (None, len(words)) or len(line) > LONGEST:
+            if call is None or len(line) > LONGEST or form is not None and len(form.split()) != len(words):
                 raise NoCall
             return call(self, *words)
         except NoCall:

@@ -1,4 +1,5 @@
 // The calls that a line can make, by its first word.
+use crate::help;
 use crate::keys;
 use console_text::answer;
 use console_text::words;
@@ -20,6 +21,7 @@ enum Call {
     Keys,
     Save,
     Load,
+    Help,
     None,
 }
 
@@ -120,6 +122,7 @@ fn asked(
         Call::Read => console_messages::read(line, words, data, out),
         Call::Radius => console_index::radius(index, words, out),
         Call::Keys => console_index::keys(index, words, out),
+        Call::Help => help::help(words, out),
         _ => answer::error(out),
     }
 }
@@ -146,6 +149,9 @@ fn call_of(name: &[u8]) -> Call {
     }
     if check::same(name, b"buffer") {
         return Call::Buffer;
+    }
+    if check::same(name, b"help") {
+        return Call::Help;
     }
     index_call(name)
 }

@@ -3,6 +3,7 @@ ghost use Prim.Native.Nat.{_≤_, _<_};
 ghost use lib.ListN.{length};
 
 mod calls;
+mod help;
 mod keys;
 
 use calls::Answered;

@@ -1,0 +1,36 @@
+// One line that names every call and its words.
+use console_text::answer;
+use console_text::words::Words;
+
+// help
+pub fn help(words: Words, out: &mut [u8]) -> usize {
+    if words.count != 1 {
+        return answer::error(out);
+    }
+    let keys = answer::text(
+        out,
+        0,
+        b"help: id KEY; distance A B; interested NODE RADIUS KEY; content BYTES; ",
+    );
+    let writing = answer::text(
+        out,
+        keys,
+        b"read MESSAGE; write ping RADIUS, write pong RADIUS, write findnode DISTANCES, ",
+    );
+    let found = answer::text(
+        out,
+        writing,
+        b"write foundnodes TOTAL RECORD .., write findcontent KEY, write foundcontent CONNECTION CONTENT RECORD .., ",
+    );
+    let rest = answer::text(
+        out,
+        found,
+        b"write offer KEY, write accept KEY, write store CONNECTION CONTENT; buffer N; ",
+    );
+    let index = answer::text(
+        out,
+        rest,
+        b"fresh NODE CAP; store KEY CONTENT; remove KEY; radius; keys; save; load TEXT; help",
+    );
+    answer::end(out, index)
+}

@@ -13,7 +13,7 @@ use Rattle.message.specs.Rules.{sameBytes, allDifferent, goodRecords}
 use Rattle.message.specs.Reading.{recordsAt}
 use Rattle.message.proofs.Tests.{both}
 use Rattle.message_rules.specs.Good.{insideAt, goodAt, sizesGood, Places}
-use Rattle.message_rules.proofs.Bytes.{sizes-of}
+use Rattle.message_rules.proofs.Lengths.{sizes-of}
 
 module _ (s starts lens : List ℕ) where
   pub inside-none : insideAt s starts lens 0 ≡ true

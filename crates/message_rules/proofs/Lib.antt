@@ -1,5 +1,6 @@
 pub mod Places
-pub mod Bytes
+pub mod Lengths
 pub mod Pairs
 pub mod Flags
 pub mod Good
+pub mod Present

@@ -9,8 +9,8 @@ use mathlib.Core.List.{List, []}
 use lib.ListN.{length, getD, drop, drop-of-length-le}
 use lib.Seq.{drop-cons}
 use Rattle.message.specs.Rules.{sameBytes, holds, allDifferent}
-use Rattle.message.specs.Reading.{partAt, recordsAt}
-use Rattle.message_rules.proofs.Places.{records-length, record-at}
+use Rattle.message.specs.Reading.{recordsAt}
+use Rattle.message_rules.proofs.Places.{between, part-between, records-length, record-at}
 
 -- no record before i is equal to another of the n records
 pub record Clear (rs : List (List ℕ)) (n i : ℕ) : Type 0 where
@@ -70,9 +70,13 @@ module _ (s starts lens : List ℕ) (n : ℕ) where
 
     -- a comparison of two records
     module _ (h : j < n) (b : Bool)
-        (is : b ≡ sameBytes (partAt s (getD starts i 0) (getD lens i 0)) (partAt s (getD starts j 0) (getD lens j 0))) where
+        (is : b ≡ sameBytes (between s (getD starts i 0) (getD lens i 0)) (between s (getD starts j 0) (getD lens j 0))) where
       compared : sameBytes (getD records i []) (getD records j []) ≡ b
-      compared = ap₂ sameBytes (record-at s starts lens n i (r .here)) (record-at s starts lens n j h) ∙ sym is
+      compared =
+          ap₂ sameBytes
+          (record-at s starts lens n i (r .here) ∙ sym (part-between s (getD starts i 0) (getD lens i 0)))
+          (record-at s starts lens n j h ∙ sym (part-between s (getD starts j 0) (getD lens j 0)))
+          ∙ sym is
 
       -- they differ: the rest of the row is left
       pub row-next : b ≡ false → Row records n i (j + 1)
@@ -84,9 +88,9 @@ module _ (s starts lens : List ℕ) (n : ℕ) where
           }
 
       -- they are equal: the search is over
-      pub pair-found : b ≡ true → true ≡ not (allDifferent sameBytes records)
+      pub pair-found : b ≡ true → not (allDifferent sameBytes records) ≡ true
       pair-found e =
           let one : holds sameBytes (getD records i []) (drop (i + 1) records) ≡ true =
           r .left ∙ left-at records i j (omega arith) ∙ rw (compared ∙ e) in
           let two : allDifferent sameBytes records ≡ false = r .clear .rest ∙ rest-at records i (omega arith) ∙ rw one in
-          sym (ap not two)
+          ap not two

@@ -1,16 +1,25 @@
 -- The records at some places: how many they are, which one stands where, and how long a part is. Assumes nothing.
-use Prim.Native.Nat.{ℕ, zero, suc, _+_, _<_, _≤_}
+use Prim.Native.Nat.{ℕ, zero, suc, _+_, _-_, _<_, _≤_}
 use native.Mathlib.Decide.{ℕ-discrete}
 use native.Mathlib.Omega.{arith}
-use mathlib.Core.Path.{_≡_, refl, _∙_}
+use mathlib.Core.Path.{_≡_, refl, ap, _∙_}
 use mathlib.Core.List.{List, [], _∷_, _++_}
-use lib.ListN.{length, getD, length-append, length-take, length-drop, List·getD-append}
+use lib.ListN.{length, getD, take, drop, length-append, length-take, length-drop, List·getD-append}
 use lib.Seq.{getD-at}
 use Rattle.message.specs.Reading.{partAt, recordsAt}
 
 -- a part that lies in a list has its length
 pub part-length : (s : List ℕ) (base size : ℕ) → base + size ≤ length s → length (partAt s base size) ≡ size
 part-length s base size fits = simp (length-take, length-drop) (omega arith)
+
+-- a part as code takes it, by its start and its end
+abbrev pub between : List ℕ → ℕ → ℕ → List ℕ
+between s start size = take (start + size - start) (drop start s)
+
+pub part-between : (s : List ℕ) (start size : ℕ) → between s start size ≡ partAt s start size
+part-between s start size =
+    let n : start + size - start ≡ size = omega arith in
+    ap (λ (k : ℕ). take k (drop start s)) n
 
 -- as many records as places
 pub records-length : (s starts lens : List ℕ) (n : ℕ) → length (recordsAt s starts lens n) ≡ n

@@ -1,12 +1,35 @@
-// The rules on the items of a message that reading and writing share: distances that are all different, and good records.
-ghost use Prim.Native.Nat.{_+_, _≤_, _<_};
+// What reading and writing a message share: an offset, how many things are present, distances that are all different, and good records.
+ghost use Prim.Native.Nat.{_≤_, _<_};
 ghost use mathlib.Core.Path.{_≡_};
 ghost use mathlib.Core.Bool.{not};
 ghost use lib.Dec.{eqb};
-ghost use lib.ListN.{length, take};
-ghost use Rattle.message.specs.Rules.{allDifferent, sameBytes};
-ghost use Rattle.message.specs.Reading.{partAt, recordsAt};
+ghost use lib.ListN.{length, take, drop};
+ghost use Rattle.message.specs.Records.{offsetOf};
+ghost use Rattle.message.specs.Rules.{allDifferent, sameBytes, one};
+ghost use Rattle.message.specs.Reading.{recordsAt};
 ghost use Rattle.message_rules.specs.Good.{insideAt, goodAt, sizesGood, Places};
+ghost use Rattle.message_rules.specs.Things.{thingsOf};
+
+// The number of the four bytes from index `at` on, lightest first; bytes past the end count as 0.
+pub fn offset(s: &[u8], at: usize) -> usize
+    ensures { λ r. ⌜ (r ≡ offsetOf (drop at (now (s .entry)))) × (r < 4294967296) ⌝ }
+{
+    octets::le4(octets::part4(s, at))
+}
+
+// How many are present of a connection id that is not zero, records, and content.
+pub fn things(connection: [u8; 4], records: usize, content: usize) -> usize
+    ensures { λ r. ⌜ r ≡ thingsOf connection records content ⌝ }
+{
+    one(0 < octets::le4(connection)) + one(0 < records) + one(0 < content)
+}
+
+// 1 where a thing is present.
+fn one(present: bool) -> usize
+    ensures { λ r. ⌜ (r ≡ one present) × (r ≤ 1) ⌝ }
+{
+    if present { 1 } else { 0 }
+}
 
 // No two bytes are equal: one pass, with a flag for each byte that was seen.
 pub fn all_different(bytes: &[u8]) -> bool
@@ -14,7 +37,7 @@ pub fn all_different(bytes: &[u8]) -> bool
 {
     let mut seen = [0u8; 256];
     for i in 0..bytes.len() {
-        let byte = wide(bytes[i]);
+        let byte = octets::wide(bytes[i]);
         if seen[byte] != 0 {
             return false;
         }
@@ -79,33 +102,13 @@ fn some_equal(s: &[u8], starts: &[usize; 32], lens: &[usize; 32], count: usize) 
     let mut found = false;
     'pairs: for i in 0..count {
         for j in i + 1..count {
-            if same(s, starts[i], lens[i], starts[j], lens[j]) {
+            let a = starts[i];
+            let b = starts[j];
+            if octets::same(&s[a..a + lens[i]], &s[b..b + lens[j]]) {
                 found = true;
                 break 'pairs;
             }
         }
     }
     found
-}
-
-// Two parts of the bytes are equal byte for byte.
-fn same(s: &[u8], a: usize, n: usize, b: usize, m: usize) -> bool
-    requires { ⌜ (a + n ≤ length (now s)) × (b + m ≤ length (now s)) ⌝ }
-    ensures { λ r. ⌜ r ≡ sameBytes (partAt (now (s .entry)) a n) (partAt (now (s .entry)) b m) ⌝ }
-{
-    if n != m {
-        return false;
-    }
-    for k in 0..n {
-        if s[a + k] != s[b + k] {
-            return false;
-        }
-    }
-    true
-}
-
-fn wide(x: u8) -> usize
-    ensures { λ r. ⌜ (r ≡ x) × (r < 256) ⌝ }
-{
-    x as usize
 }

@@ -1,11 +1,11 @@
 -- `message_rules::sizes` meets its contract. The invariant: the test of all sizes is the test of those that are left. A bad size decides, a good
--- one leaves it to the rest (`proofs/Bytes.antt`). The measure is what is left of the count. Assumes nothing.
+-- one leaves it to the rest (`proofs/Lengths.antt`). The measure is what is left of the count. Assumes nothing.
 use Prim.Native.Nat.{_-_}
 use mathlib.Core.Path.{_≡_, sym, _∙_}
 use lib.ListN.{take, drop}
 use borrow.Author.Needs.{needs}
 use Rattle.message_rules.specs.Good.{sizesGood}
-use Rattle.message_rules.proofs.Bytes.{size-low, size-high, size-good, sizes-end}
+use Rattle.message_rules.proofs.Lengths.{size-low, size-high, size-good, sizes-end}
 use Rattle.message_rules.proofs.sizes.Statement.{statement}
 use Rattle.message_rules.proofs.sizes.Tie as tie
 

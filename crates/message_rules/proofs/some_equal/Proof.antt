@@ -1,9 +1,10 @@
 -- `message_rules::some_equal` meets its contract. The invariants: before a row, no record of an earlier row is equal to another (`Clear`); in a
 -- row, nor is the row's record to those passed (`Row`). The steps, and the pair that the label leaves at, are laws of `proofs/Pairs.antt`.
 -- The measures are what is left of the count. Assumes nothing.
-use Prim.Native.Nat.{_-_}
+use Prim.Native.Nat.{_+_, _-_, _≤_}
 use mathlib.Core.Path.{_≡_, refl, _∙_}
 use mathlib.Core.Bool.{false}
+use lib.ListN.{length, getD}
 use borrow.Author.Needs.{needs}
 use Rattle.message_rules.proofs.Pairs.{Clear, Row, records, clear-start, clear-end, row-start, row-end, row-next, pair-found}
 use Rattle.message_rules.proofs.some_equal.Statement.{statement}
@@ -21,6 +22,18 @@ Inv-pairs s starts lens count found₀ i₀ found i = (found ≡ false) × Clear
 abbrev μ-pairs : tie.MeasureT-pairs
 μ-pairs s starts lens count found₀ i₀ found i = count - i
 
+-- the records of the pair lie in the bytes
+fit : (c : tie.In-loop Inv-loop μ-loop Inv-pairs μ-pairs)
+    → (getD (c .before .before .before .before .before .args .starts .now) (c .before .before .before .pairs .i) 0
+    + getD (c .before .before .before .before .before .args .lens .now) (c .before .before .before .pairs .i) 0
+    ≤ length (c .before .before .before .before .before .args .s .now))
+    × (getD (c .before .before .before .before .before .args .starts .now) (c .before .loop .j) 0
+    + getD (c .before .before .before .before .before .args .lens .now) (c .before .loop .j) 0
+    ≤ length (c .before .before .before .before .before .args .s .now))
+fit c =
+    let p = c .before .before .before .before .before .pre in
+    (p .inside (c .before .before .before .pairs .i) (search needs), p .inside (c .before .loop .j) (search needs))
+
 pairs-holds : tie.Need-pairs-holds Inv-loop μ-loop Inv-pairs μ-pairs
 pairs-holds c = (refl, clear-start _ _ _ _)
 
@@ -30,11 +43,43 @@ add-j c = search needs
 loop-holds : tie.Need-loop-holds Inv-loop μ-loop Inv-pairs μ-pairs
 loop-holds c = (c .before .pairs .inv .0, row-start _ _ _ _ _ (c .before .pairs .inv .1) (search needs))
 
+mul-a : tie.Need-mul-a Inv-loop μ-loop Inv-pairs μ-pairs
+mul-a c = search needs
+
+element-copy-out-a : tie.Need-element-copy-out-a Inv-loop μ-loop Inv-pairs μ-pairs
+element-copy-out-a c = search needs
+
+mul-b : tie.Need-mul-b Inv-loop μ-loop Inv-pairs μ-pairs
+mul-b c = search needs
+
+element-copy-out-b : tie.Need-element-copy-out-b Inv-loop μ-loop Inv-pairs μ-pairs
+element-copy-out-b c = search needs
+
 mul-same : tie.Need-mul-same Inv-loop μ-loop Inv-pairs μ-pairs
 mul-same c = search needs
 
 element-copy-out-same : tie.Need-element-copy-out-same Inv-loop μ-loop Inv-pairs μ-pairs
 element-copy-out-same c = search needs
+
+add-same : tie.Need-add-same Inv-loop μ-loop Inv-pairs μ-pairs
+add-same c =
+    let f = fit (c .before .before .before) in
+    search needs
+
+sub-same : tie.Need-sub-same Inv-loop μ-loop Inv-pairs μ-pairs
+sub-same c =
+    let f = fit (c .before .before .before) in
+    search needs
+
+part-same-start : tie.Need-part-same-start Inv-loop μ-loop Inv-pairs μ-pairs
+part-same-start c =
+    let f = fit (c .before .before .before) in
+    search needs
+
+part-same-end : tie.Need-part-same-end Inv-loop μ-loop Inv-pairs μ-pairs
+part-same-end c =
+    let f = fit (c .before .before .before) in
+    search needs
 
 mul-same-2 : tie.Need-mul-same-2 Inv-loop μ-loop Inv-pairs μ-pairs
 mul-same-2 c = search needs
@@ -42,23 +87,28 @@ mul-same-2 c = search needs
 element-copy-out-same-2 : tie.Need-element-copy-out-same-2 Inv-loop μ-loop Inv-pairs μ-pairs
 element-copy-out-same-2 c = search needs
 
-mul-same-3 : tie.Need-mul-same-3 Inv-loop μ-loop Inv-pairs μ-pairs
-mul-same-3 c = search needs
+add-same-2 : tie.Need-add-same-2 Inv-loop μ-loop Inv-pairs μ-pairs
+add-same-2 c =
+    let f = fit (c .before .before .before .before .before) in
+    search needs
 
-element-copy-out-same-3 : tie.Need-element-copy-out-same-3 Inv-loop μ-loop Inv-pairs μ-pairs
-element-copy-out-same-3 c = search needs
+sub-same-2 : tie.Need-sub-same-2 Inv-loop μ-loop Inv-pairs μ-pairs
+sub-same-2 c =
+    let f = fit (c .before .before .before .before .before) in
+    search needs
 
-mul-same-4 : tie.Need-mul-same-4 Inv-loop μ-loop Inv-pairs μ-pairs
-mul-same-4 c = search needs
+part-same-start-2 : tie.Need-part-same-start-2 Inv-loop μ-loop Inv-pairs μ-pairs
+part-same-start-2 c =
+    let f = fit (c .before .before .before .before .before) in
+    search needs
 
-element-copy-out-same-4 : tie.Need-element-copy-out-same-4 Inv-loop μ-loop Inv-pairs μ-pairs
-element-copy-out-same-4 c = search needs
+part-same-end-2 : tie.Need-part-same-end-2 Inv-loop μ-loop Inv-pairs μ-pairs
+part-same-end-2 c =
+    let f = fit (c .before .before .before .before .before) in
+    search needs
 
 same-requires : tie.Need-same-requires Inv-loop μ-loop Inv-pairs μ-pairs
-same-requires c κs =
-    let at = c .before .before .before .before .before .before .before in
-    let p = at .before .before .pre in
-    (p .inside (at .pairs .i) (search needs), p .inside (c .before .before .before .before .before .loop .j) (search needs))
+same-requires c κs = search needs
 
 add-j-2 : tie.Need-add-j-2 Inv-loop μ-loop Inv-pairs μ-pairs
 add-j-2 c = search needs
@@ -68,7 +118,7 @@ loop-less c = search needs
 
 loop-again : tie.Need-loop-again Inv-loop μ-loop Inv-pairs μ-pairs
 loop-again c =
-    let at = c .before .before .before .before .before .before .before in
+    let at = c .before .before .before .before .before .before .before .before .before in
     (at .loop .inv .0, row-next _ _ _ _ _ _ (at .loop .inv .1) (search needs) _ (c .before .same .ensures) (c .if1 .left))
 
 add-i : tie.Need-add-i Inv-loop μ-loop Inv-pairs μ-pairs
@@ -85,8 +135,9 @@ returns c = c .before .pairs .inv .0 ∙ clear-end _ _ _ _ _ (c .before .pairs .
 
 returns-2 : tie.Need-returns-2 Inv-loop μ-loop Inv-pairs μ-pairs
 returns-2 c =
-    let at = c .before .before .before .before .before .before .before in
-    pair-found _ _ _ _ _ _ (at .loop .inv .1) (search needs) _ (c .before .same .ensures) (c .if1 .taken)
+    let at = c .before .before .before .before .before .before .before .before .before in
+    let found = pair-found _ _ _ _ _ _ (at .loop .inv .1) (search needs) _ (c .before .same .ensures) (c .if1 .taken) in
+    cc
 
 pub some-equal-spec : {M : Type 1} → statement M
 some-equal-spec =
@@ -99,14 +150,22 @@ some-equal-spec =
     pairs-holds
     add-j
     loop-holds
+    mul-a
+    element-copy-out-a
+    mul-b
+    element-copy-out-b
     mul-same
     element-copy-out-same
+    add-same
+    sub-same
+    part-same-start
+    part-same-end
     mul-same-2
     element-copy-out-same-2
-    mul-same-3
-    element-copy-out-same-3
-    mul-same-4
-    element-copy-out-same-4
+    add-same-2
+    sub-same-2
+    part-same-start-2
+    part-same-end-2
     same-requires
     add-j-2
     loop-less

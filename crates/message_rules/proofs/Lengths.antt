@@ -1,71 +1,19 @@
--- Two parts of a message compared byte by byte, and the sizes of records tested one by one: at each place, the answer on the whole is the
--- answer on the rest. Assumes nothing.
+-- The lengths of records tested one by one: at each place, the answer on the whole is the answer on the rest; and the lengths are those of
+-- the records at their places. Assumes nothing.
 use Prim.Native.Nat.{ℕ, zero, suc, _+_, _<_, _≤_}
 use native.Mathlib.Numerals.{add-one}
 use native.Mathlib.Omega.{arith}
 use mathlib.Core.Path.{_≡_, refl, sym, ap, ap₂, _∙_}
-use mathlib.Core.Bool.{Bool, true, false, _&&_, and-false}
+use mathlib.Core.Bool.{Bool, true, false, _&&_}
 use mathlib.Core.List.{List, [], _∷_, _++_, map}
 use lib.ListN.{length, getD, take, drop, drop-of-length-le}
-use lib.Seq.{drop-cons, getD-take, getD-drop, take-suc, length-take-le}
-use lib.Dec.{leb, eqb}
-use borrow.Author.Tests.{le-leb, lt-leb, eq-eqb, ne-eqb}
-use Rattle.message.specs.Rules.{sameBytes, recordSizes}
+use lib.Seq.{drop-cons, getD-take, take-suc, length-take-le}
+use lib.Dec.{leb}
+use borrow.Author.Tests.{le-leb, lt-leb}
+use Rattle.message.specs.Rules.{recordSizes}
 use Rattle.message.specs.Reading.{partAt, recordsAt}
 use Rattle.message_rules.specs.Good.{sizesGood, Places}
 use Rattle.message_rules.proofs.Places.{part-length}
-
--- lists of different lengths differ
-differ-length : (xs ys : List ℕ) → (length xs ≡ length ys → ⊥) → sameBytes xs ys ≡ false
-unfolding sameBytes
-differ-length [] [] ne = absurd (ne refl)
-differ-length [] (y ∷ ys) ne = refl
-differ-length (x ∷ xs) [] ne = refl
-differ-length (x ∷ xs) (y ∷ ys) ne = rw (differ-length xs ys (λ e. ne (ap suc e)), and-false (eqb x y))
-
--- the comparison from a place on, by the bytes there
-same-at : (xs ys : List ℕ) (k : ℕ) → k < length xs → k < length ys
-    → sameBytes (drop k xs) (drop k ys) ≡ (eqb (getD xs k 0) (getD ys k 0) && sameBytes (drop (suc k) xs) (drop (suc k) ys))
-unfolding sameBytes
-same-at xs ys k h g = ap₂ sameBytes (drop-cons xs k 0 h) (drop-cons ys k 0 g)
-
-module _ (s : List ℕ) (a n b m : ℕ) (in-a : a + n ≤ length s) (in-b : b + m ≤ length s) where
-  -- parts of different lengths differ
-  pub parts-differ : (n ≡ m → ⊥) → false ≡ sameBytes (partAt s a n) (partAt s b m)
-  parts-differ ne =
-      let la = part-length s a n in-a in
-      let lb = part-length s b m in-b in
-      sym (differ-length (partAt s a n) (partAt s b m) (λ e. ne (sym la ∙ e ∙ lb)))
-
-  module _ (same : n ≡ m) where
-    -- the comparison from a place on, by the bytes of the message there
-    parts-at : (k : ℕ) → k < n
-        → sameBytes (drop k (partAt s a n)) (drop k (partAt s b m))
-        ≡ (eqb (getD s (a + k) 0) (getD s (b + k) 0) && sameBytes (drop (k + 1) (partAt s a n)) (drop (k + 1) (partAt s b m)))
-    parts-at k h =
-        let la = part-length s a n in-a in
-        let lb = part-length s b m in-b in
-        rw add-one (
-        same-at (partAt s a n) (partAt s b m) k (omega arith) (omega arith)
-        ∙ ap₂ (λ (x y : ℕ). eqb x y && sameBytes (drop (suc k) (partAt s a n)) (drop (suc k) (partAt s b m)))
-        (getD-take n (drop a s) k 0 h ∙ getD-drop a s k 0)
-        (getD-take m (drop b s) k 0 (omega arith) ∙ getD-drop b s k 0)
-        )
-
-    pub byte-differs : (k : ℕ) → k < n → (getD s (a + k) 0 ≡ getD s (b + k) 0 → ⊥)
-        → sameBytes (drop k (partAt s a n)) (drop k (partAt s b m)) ≡ false
-    byte-differs k h ne = parts-at k h ∙ rw (ne-eqb (getD s (a + k) 0) (getD s (b + k) 0) ne)
-
-    pub byte-same : (k : ℕ) → k < n → getD s (a + k) 0 ≡ getD s (b + k) 0
-        → sameBytes (drop k (partAt s a n)) (drop k (partAt s b m)) ≡ sameBytes (drop (k + 1) (partAt s a n)) (drop (k + 1) (partAt s b m))
-    byte-same k h e = parts-at k h ∙ rw (eq-eqb (getD s (a + k) 0) (getD s (b + k) 0) e)
-
-    pub bytes-end : (k : ℕ) → n ≤ k → sameBytes (drop k (partAt s a n)) (drop k (partAt s b m)) ≡ true
-    unfolding sameBytes
-    bytes-end k h =
-        let la = part-length s a n in-a in
-        let lb = part-length s b m in-b in
-        ap₂ sameBytes (drop-of-length-le (partAt s a n) {i = k} (omega arith)) (drop-of-length-le (partAt s b m) {i = k} (omega arith))
 
 -- the sizes from a place on, by the size there
 module _ (lens : List ℕ) (count : ℕ) (inside : count ≤ length lens) (i : ℕ) where

@@ -109,14 +109,14 @@ list-read (r ∷ rs) h =
     laid-read laid ∙ rw (os, starts-between s (4 * n) all records)
 
 -- there are as many records as offsets
-between-length : (s os : List ℕ) → length (between s os) ≡ length os
+pub between-length : (s os : List ℕ) → length (between s os) ≡ length os
 unfolding between
 between-length s [] = refl
 between-length s (a ∷ []) = refl
 between-length s (a ∷ b ∷ os) = ap suc (between-length s (b ∷ os))
 
 -- n offsets are n
-offsets-count : (n : ℕ) (s : List ℕ) → length (offsetsOf n s) ≡ n
+pub offsets-count : (n : ℕ) (s : List ℕ) → length (offsetsOf n s) ≡ n
 unfolding offsetsOf
 offsets-count zero s = refl
 offsets-count (suc n) s = ap suc (offsets-count n (drop 4 s))

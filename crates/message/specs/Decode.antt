@@ -6,7 +6,7 @@ use mathlib.Core.List.{List, [], _∷_, reverse}
 use mathlib.Core.Option.{Option, some, none}
 use lib.Dec.{eqb, leb, ltb}
 use lib.ListN.{length, getD, take, drop}
-use Rattle.refusal.specs.Outcome.{Outcome, given, refused}
+use Rattle.refusal.specs.Outcome.{Outcome, refused}
 use Rattle.message.specs.Values.{Message, ping, pong, findNode, foundNodes, findContent, foundContent, offer, accept, store}
 use Rattle.message.specs.Records.{offsetOf, recordsOf}
 use Rattle.message.specs.Rules.{rulesOf}

@@ -21,6 +21,10 @@ offsetsOf (suc n) s = offsetOf s ∷ offsetsOf n (drop 4 s)
 unfoldable pub countOf : List ℕ → ℕ
 countOf s = offsetOf s / 4
 
+-- all offsets of a list, none where it has no bytes
+unfoldable pub offsetsIn : List ℕ → List ℕ
+offsetsIn s = offsetsOf (countOf s) s
+
 -- none is smaller than the one before, and none passes the end
 unfoldable pub ordered : ℕ → List ℕ → Bool
 ordered end [] = Bool.true

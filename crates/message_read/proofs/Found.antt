@@ -20,6 +20,7 @@ use Rattle.message.specs.Values.{Message, foundNodes, foundContent}
 use Rattle.message.specs.Records.{offsetOf, recordsOf}
 use Rattle.message.specs.Rules.{one, present, connected, goodRecords, ruled, rulesOf}
 use Rattle.message.specs.Decode.{mapSome, twoOffsets, foundNodesOf, foundContentOf, layoutOf, ruledOr4}
+use Rattle.message.specs.Report.{blankOf, withTotal, withConnection, withRecords, toEnd}
 use Rattle.message.specs.Reading.{recordsAt, ReadTo}
 use Rattle.message.specs.declared.Kind.the-variants.{FoundNodes, FoundContent}
 use Rattle.message.proofs.Layouts.{TwoOffsets, two-pass, pass-two}
@@ -27,10 +28,10 @@ use Rattle.message_records.specs.Found.{recordsIn, verdictOf, RecordsIn}
 use Rattle.message_records.specs.declared.Verdict.{Verdict}
 use Rattle.message_records.specs.declared.Verdict.the-variants.{Broken, TooMany, Bad, Good}
 use Rattle.message_records.specs.declared.Records.{Records}
-use Rattle.message_read.specs.Shapes.{blankOf, RestAt, thingsOf, whyOf}
+use Rattle.message_read.specs.Shapes.{RestAt, thingsOf, whyOf}
 use Rattle.message_read.proofs.Lists.{part-rest, present-drop}
 use Rattle.message_read.proofs.Shapes.{rest-none, rest-some, rest-long}
-use Rattle.message_read.proofs.Answers.{setTotal, setConnection, setPart, setPlaces, nodes-to, content-to}
+use Rattle.message_read.proofs.Answers.{placesIn, found-to, found-places}
 
 -- only good records are accepted
 whyOf-good : (v : Verdict) → whyOf v ≡ Accepted → v ≡ Good
@@ -102,8 +103,11 @@ module _ {s : List ℕ} {r : Bool} (t : RestAt 5 s r) (e : not r ≡ false) (fou
     pub nodes-zero : getD s 1 0 ≡ 0 → ruledOr4 (layoutOf 4 (drop 1 s)) ≡ refused 6
     nodes-zero z = nodes-tested ∙ rw (le-ltb 0 (getD s 1 0) (omega arith))
 
-    pub nodes-good : (getD s 1 0 ≡ 0 → ⊥) → ReadTo (ruledOr4 (layoutOf 4 (drop 1 s))) s (setTotal (getD s 1 0) (setPlaces found (blankOf FoundNodes)))
-    nodes-good z = nodes-to found f (getD s 1 0) (nodes-tested ∙ rw (lt-ltb 0 (getD s 1 0) (omega arith)))
+    pub nodes-good : (getD s 1 0 ≡ 0 → ⊥) → ReadTo (ruledOr4 (layoutOf 4 (drop 1 s))) s (placesIn (withTotal (getD s 1 0) (blankOf FoundNodes)) found)
+    nodes-good z =
+        let a = withTotal (getD s 1 0) (blankOf FoundNodes) in
+        found-to a f (omega arith) (nodes-tested ∙ rw (lt-ltb 0 (getD s 1 0) (omega arith)))
+        (found-places a f (whyOf-good (found .verdict) k) ∙ ap (λ (l : List ℕ). withRecords 6 l a) (part-rest s 6))
 
 -- FoundContent: its two offsets
 module _ (s : List ℕ) where
@@ -218,7 +222,9 @@ module _ {s : List ℕ} {two : Bool} {second : ℕ} (w : two ≡ twoOffsets (dro
 
     pub content-good : n ≤ 1
         → ReadTo (ruledOr4 (layoutOf 6 (drop 1 s))) s
-        (setPart (1 + second) (length s - (1 + second)) (setConnection (take 4 (drop 1 s)) (setPlaces found (blankOf FoundContent))))
+        (placesIn (toEnd s (1 + second) (withConnection (take 4 (drop 1 s)) (blankOf FoundContent))) found)
     content-good h =
-        content-to found f (take 4 (drop 1 s)) (1 + second) (length s - (1 + second)) (omega (arith, end))
+        let a = toEnd s (1 + second) (withConnection (take 4 (drop 1 s)) (blankOf FoundContent)) in
+        found-to a f (omega (arith, end))
         (content-tested ∙ rw (le-leb n 1 h, part-rest s (1 + second)))
+        (found-places a f (whyOf-good (found .verdict) k) ∙ rw q)

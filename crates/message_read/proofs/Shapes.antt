@@ -17,12 +17,13 @@ use Rattle.message.specs.Values.{findNode, store}
 use Rattle.message.specs.Records.{offsetOf}
 use Rattle.message.specs.Rules.{one, present, connected, allDifferent, ruled, rulesOf}
 use Rattle.message.specs.Decode.{mapSome, radiusOf, restOf, layoutOf, ruledOr4}
+use Rattle.message.specs.Report.{blankOf, withRadius, withConnection, toEnd, reportOf}
 use Rattle.message.specs.Reading.{ReadTo}
 use Rattle.message.specs.declared.Kind.{Kind}
 use Rattle.message.specs.declared.Kind.the-variants.{Ping, Pong, FindNode, FindContent, Offer, Accept, Store}
-use Rattle.message_read.specs.Shapes.{blankOf, partOf, typeOf, RadiusKind, is-ping, is-pong, KeyKind, is-find-content, is-offer, is-accept, RestAt, thingsOf}
+use Rattle.message_read.specs.Shapes.{typeOf, RadiusKind, is-ping, is-pong, KeyKind, is-find-content, is-offer, is-accept, RestAt, thingsOf}
 use Rattle.message_read.proofs.Lists.{part-rest, present-drop}
-use Rattle.message_read.proofs.Answers.{setRadius, setConnection, radius-to, part-to, store-to}
+use Rattle.message_read.proofs.Answers.{plain-to}
 
 -- a message that does not reach behind its fixed part has no rest
 pub rest-short : (n : ℕ) (s : List ℕ) → 4 ≤ n → length s ≤ n → RestAt n s false
@@ -66,12 +67,12 @@ radius-broken is-ping s h = rw (ne-eqb (length (drop 1 s)) 32 (λ e. h (omega (a
 radius-broken is-pong s h = rw (ne-eqb (length (drop 1 s)) 32 (λ e. h (omega (arith, length-drop 1 s))))
 
 pub radius-good : {kind : Kind} (k : RadiusKind kind) (s : List ℕ) → length s ≡ 33
-    → ReadTo (ruledOr4 (layoutOf (typeOf kind) (drop 1 s))) s (setRadius (reverse (drop 1 s)) (blankOf kind))
+    → ReadTo (ruledOr4 (layoutOf (typeOf kind) (drop 1 s))) s (withRadius (reverse (drop 1 s)) (blankOf kind))
 unfolding layoutOf radiusOf rulesOf
 radius-good is-ping s h =
-    radius-to Ping (reverse (drop 1 s)) refl (rw (eq-eqb (length (drop 1 s)) 32 (omega (arith, length-drop 1 s))))
+    plain-to (reportOf s Ping) refl (omega arith) (rw (eq-eqb (length (drop 1 s)) 32 (omega (arith, length-drop 1 s)))) refl
 radius-good is-pong s h =
-    radius-to Pong (reverse (drop 1 s)) refl (rw (eq-eqb (length (drop 1 s)) 32 (omega (arith, length-drop 1 s))))
+    plain-to (reportOf s Pong) refl (omega arith) (rw (eq-eqb (length (drop 1 s)) 32 (omega (arith, length-drop 1 s)))) refl
 
 -- FindNode
 pub distances-broken : {s : List ℕ} {r : Bool} → RestAt 4 s r → not r ≡ true → ruledOr4 (layoutOf 3 (drop 1 s)) ≡ refused 4
@@ -93,12 +94,13 @@ module _ {s : List ℕ} {r : Bool} (t : RestAt 4 s r) (e : not r ≡ false) wher
     pub distances-equal : not all ≡ true → ruledOr4 (layoutOf 3 (drop 1 s)) ≡ refused 6
     distances-equal k = distances-tested ∙ ap (λ (b : Bool). cond b (given (findNode (drop 5 s))) (refused 6)) (not-true all k)
 
-    pub distances-good : not all ≡ false → ReadTo (ruledOr4 (layoutOf 3 (drop 1 s))) s (partOf FindNode 5 (length s - 5))
+    pub distances-good : not all ≡ false → ReadTo (ruledOr4 (layoutOf 3 (drop 1 s))) s (toEnd s 5 (blankOf FindNode))
     distances-good k =
-        part-to FindNode 5 (length s - 5) refl (omega (arith, rest-long t e))
+        plain-to (reportOf s FindNode) refl (omega (arith, rest-long t e))
         (distances-tested
         ∙ ap (λ (b : Bool). cond b (given (findNode (drop 5 s))) (refused 6)) (not-false all k)
         ∙ ap (λ (x : List ℕ). given (findNode x)) (sym (part-rest s 5)))
+        refl
 
 -- FindContent, Offer, Accept
 pub key-broken : {kind : Kind} {s : List ℕ} {r : Bool} → KeyKind kind → RestAt 4 s r → not r ≡ true
@@ -116,14 +118,14 @@ key-bad is-offer t e k = rw (rest-some t e, ← k)
 key-bad is-accept t e k = rw (rest-some t e, ← k)
 
 pub key-good : {kind : Kind} {s : List ℕ} {r : Bool} {key : List ℕ} → KeyKind kind → RestAt 4 s r → not r ≡ false
-    → given key ≡ keyOf (drop 5 s) → ReadTo (ruledOr4 (layoutOf (typeOf kind) (drop 1 s))) s (partOf kind 5 (length s - 5))
+    → given key ≡ keyOf (drop 5 s) → ReadTo (ruledOr4 (layoutOf (typeOf kind) (drop 1 s))) s (toEnd s 5 (blankOf kind))
 unfolding layoutOf rulesOf
 key-good {s = s} is-find-content t e k =
-    part-to FindContent 5 (length s - 5) refl (omega (arith, rest-long t e)) (rw (rest-some t e, ← k, part-rest s 5))
+    plain-to (reportOf s FindContent) refl (omega (arith, rest-long t e)) (rw (rest-some t e, ← k, part-rest s 5)) refl
 key-good {s = s} is-offer t e k =
-    part-to Offer 5 (length s - 5) refl (omega (arith, rest-long t e)) (rw (rest-some t e, ← k, part-rest s 5))
+    plain-to (reportOf s Offer) refl (omega (arith, rest-long t e)) (rw (rest-some t e, ← k, part-rest s 5)) refl
 key-good {s = s} is-accept t e k =
-    part-to Accept 5 (length s - 5) refl (omega (arith, rest-long t e)) (rw (rest-some t e, ← k, part-rest s 5))
+    plain-to (reportOf s Accept) refl (omega (arith, rest-long t e)) (rw (rest-some t e, ← k, part-rest s 5)) refl
 
 -- Store
 pub store-broken : {s : List ℕ} {r : Bool} → RestAt 8 s r → not r ≡ true → ruledOr4 (layoutOf 9 (drop 1 s)) ≡ refused 4
@@ -143,7 +145,8 @@ module _ {s : List ℕ} {r : Bool} {n : ℕ} (t : RestAt 8 s r) (e : not r ≡ f
   pub store-bad : (n ≡ 1 → ⊥) → ruledOr4 (layoutOf 9 (drop 1 s)) ≡ refused 6
   store-bad h = store-tested ∙ rw (ne-eqb n 1 h)
 
-  pub store-good : n ≡ 1 → ReadTo (ruledOr4 (layoutOf 9 (drop 1 s))) s (setConnection (take 4 (drop 1 s)) (partOf Store 9 (length s - 9)))
+  pub store-good : n ≡ 1 → ReadTo (ruledOr4 (layoutOf 9 (drop 1 s))) s (withConnection (take 4 (drop 1 s)) (toEnd s 9 (blankOf Store)))
   store-good h =
-      store-to (take 4 (drop 1 s)) 9 (length s - 9) (omega (arith, rest-long t e))
+      plain-to (reportOf s Store) refl (omega (arith, rest-long t e))
       (store-tested ∙ rw (eq-eqb n 1 h, part-rest s 9))
+      refl

@@ -1,11 +1,11 @@
--- What the parts of reading say: the answers that they build, the kinds that share a layout, and the tests on a layout.
+-- What the parts of reading say: the kinds that share a layout, the tests on a layout, and what a list of records is refused for.
 use Prim.Native.Nat.{ℕ, _+_, _<_}
 use mathlib.Core.Path.{_≡_}
 use mathlib.Core.Bool.{Bool, true, cond}
 use mathlib.Core.List.{List}
 use mathlib.Core.Option.{some, none}
 use lib.Dec.{ltb}
-use lib.ListN.{length, drop, replicate}
+use lib.ListN.{length, drop}
 use Rattle.refusal.specs.declared.Refusal.the-variants.{Layout, TooManyItems, ItemRule}
 use Rattle.refusal.specs.declared.Checked.{Checked}
 use Rattle.message.specs.Records.{offsetOf}
@@ -13,36 +13,8 @@ use Rattle.message.specs.Rules.{one}
 use Rattle.message.specs.Decode.{restOf}
 use Rattle.message.specs.declared.Kind.{Kind}
 use Rattle.message.specs.declared.Kind.the-variants.{Ping, Pong, FindNode, FoundNodes, FindContent, FoundContent, Offer, Accept, Store, Refused}
-use Rattle.message.specs.declared.Reading.{Reading}
 use Rattle.message_records.specs.declared.Verdict.{Verdict}
 use Rattle.message_records.specs.declared.Verdict.the-variants.{Broken, TooMany, Bad, Good}
-
--- an answer with each of its fields
-abbrev pub answerOf : Kind → List ℕ → ℕ → List ℕ → ℕ → ℕ → ℕ → List ℕ → List ℕ → Reading
-answerOf kind radius total connection start len count starts lens =
-    record {
-      kind = kind;
-      radius = radius;
-      total = total;
-      connection = connection;
-      start = start;
-      len = len;
-      count = count;
-      starts = starts;
-      lens = lens;
-    }
-
--- nothing but a kind
-abbrev pub blankOf : Kind → Reading
-blankOf kind = answerOf kind (replicate 32 0) 0 (replicate 4 0) 0 0 0 (replicate 32 0) (replicate 32 0)
-
--- a part of the message and nothing more
-abbrev pub partOf : Kind → ℕ → ℕ → Reading
-partOf kind start len = answerOf kind (replicate 32 0) 0 (replicate 4 0) start len 0 (replicate 32 0) (replicate 32 0)
-
--- records and nothing more
-abbrev pub placesOf : Kind → ℕ → List ℕ → List ℕ → Reading
-placesOf kind count starts lens = answerOf kind (replicate 32 0) 0 (replicate 4 0) 0 0 count starts lens
 
 -- the type byte of a kind
 abbrev pub typeOf : Kind → ℕ

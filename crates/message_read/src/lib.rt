@@ -6,8 +6,9 @@ ghost use lib.ListN.{length, take, drop};
 ghost use Rattle.message.specs.Records.{offsetOf};
 ghost use Rattle.message.specs.Rules.{one};
 ghost use Rattle.message.specs.Decode.{twoOffsets, layoutOf, ruledOr4, decode};
+ghost use Rattle.message.specs.Report.{blankOf, withPart, withPlaces};
 ghost use Rattle.message.specs.Reading.{ReadTo};
-ghost use Rattle.message_read.specs.Shapes.{blankOf, partOf, placesOf, typeOf, RadiusKind, KeyKind, RestAt, thingsOf, whyOf};
+ghost use Rattle.message_read.specs.Shapes.{typeOf, RadiusKind, KeyKind, RestAt, thingsOf, whyOf};
 use message::Kind;
 use message::Reading;
 use message_records::Records;
@@ -249,7 +250,7 @@ fn reason(verdict: Verdict) -> Checked
 
 // An answer with records and nothing more.
 fn with_records(kind: Kind, found: Records) -> Reading
-    ensures { λ r. ⌜ r ≡ placesOf kind (found .count) (found .starts) (found .lens) ⌝ }
+    ensures { λ r. ⌜ r ≡ withPlaces (found .count) (found .starts) (found .lens) (blankOf kind) ⌝ }
 {
     let starts = found.starts;
     let lens = found.lens;
@@ -262,7 +263,7 @@ fn with_records(kind: Kind, found: Records) -> Reading
 
 // An answer with a part of the message and nothing more.
 fn part(kind: Kind, start: usize, len: usize) -> Reading
-    ensures { λ r. ⌜ r ≡ partOf kind start len ⌝ }
+    ensures { λ r. ⌜ r ≡ withPart start len (blankOf kind) ⌝ }
 {
     let mut answer = blank(kind);
     answer.start = start;

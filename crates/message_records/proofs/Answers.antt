@@ -2,45 +2,50 @@
 -- Assumes nothing.
 use Prim.Native.Nat.{ℕ, _*_, _-_, _<_, _≤_}
 use native.Mathlib.Omega.{arith}
-use mathlib.Core.Path.{_≡_, refl, sym, ap, subst, _∙_}
+use mathlib.Core.Path.{_≡_, refl, sym, ap, ap₂, subst, _∙_}
 use mathlib.Core.Bool.{Bool, true, false, cond, not}
 use mathlib.Core.List.{List, []}
 use mathlib.Core.Option.{some, none}
 use lib.ListN.{length, take, drop}
 use borrow.Author.Tests.{le-leb, lt-leb, not-true, not-false}
-use Rattle.message.specs.Records.{offsetsOf, ordered, between, recordsOf}
+use Rattle.octets.specs.Bytes.{le}
+use Rattle.message.specs.Records.{offsetOf, offsetsOf, countOf, offsetsIn, ordered, between, recordsOf}
 use Rattle.message.specs.Rules.{recordSizes, allDifferent, goodRecords}
+use Rattle.message.specs.Report.{gaps, startsOf, lensOf}
 use Rattle.message.specs.Reading.{partAt, recordsAt}
+use Rattle.message.proofs.Records.{between-length, offsets-count}
 use Rattle.message_rules.specs.Good.{goodAt}
 use Rattle.message_rules.proofs.Places.{part-length}
 use Rattle.message_rules.proofs.Good.{good-inside}
-use Rattle.message_records.specs.Found.{recordsIn, verdictOf, RecordsIn}
-use Rattle.message_records.specs.Places.{nothing, laidCount, PlacesOf}
+use Rattle.message_records.specs.Found.{recordsIn, verdictOf, foundOf, RecordsIn}
+use Rattle.message_records.specs.Places.{nothing, laidCount, placesAt}
 use Rattle.message_records.specs.declared.Verdict.{Verdict}
 use Rattle.message_records.specs.declared.Verdict.the-variants.{Broken, TooMany, Bad, Good}
 use Rattle.message_records.specs.declared.Records.{Records}
-use Rattle.message_records.proofs.Offsets.{offsets-length}
-use Rattle.message_records.proofs.Filled.{between-length}
-use Rattle.message_records.proofs.Layouts.{Read, counted, uncounted}
+use Rattle.message_records.proofs.Filled.{places-in, places-hold}
+use Rattle.message_records.proofs.Layouts.{Read, uncounted}
+
+-- a list with no bytes has no offsets
+nothing-found : (base : ℕ) → nothing Good ≡ foundOf Good base []
+unfolding startsOf lensOf gaps offsetsIn countOf offsetsOf offsetOf le
+nothing-found base = refl
 
 module _ (s : List ℕ) (base end : ℕ) where
   -- no records, where the list comes to some verdict, and has none where that is good
   nothing-in : (v : Verdict) → v ≡ verdictOf (recordsIn s base end) → (v ≡ Good → recordsIn s base end ≡ some [])
-      → RecordsIn s base end (nothing v)
+      → nothing v ≡ foundOf v base (partAt s base (end - base)) → RecordsIn s base end (nothing v)
   unfolding recordsAt
-  nothing-in v is empty =
+  nothing-in v is empty all =
       record {
         verdict = is;
+        report = all;
         value = empty;
         few = omega arith;
         inside = λ i h. absurd (omega arith);
-        nothing = λ no. refl;
-        starts = refl;
-        lens = refl;
       }
 
   broken : recordsIn s base end ≡ none → RecordsIn s base end (nothing Broken)
-  broken e = nothing-in Broken (sym (ap verdictOf e)) (λ h. cc)
+  broken e = nothing-in Broken (sym (ap verdictOf e)) (λ h. cc) refl
 
   -- there is no such part
   pub reversed : end < base → RecordsIn s base end (nothing Broken)
@@ -64,6 +69,7 @@ module _ (s : List ℕ) (base end : ℕ) where
         let n : end - base ≡ 0 = omega arith in
         let is : recordsIn s base end ≡ some [] = part-in ∙ ap (λ (k : ℕ). recordsOf (take k (drop base s))) n in
         nothing-in Good (sym (ap verdictOf is)) (λ w. is)
+        (nothing-found base ∙ ap (λ (k : ℕ). foundOf Good base (take k (drop base s))) (sym n))
 
     -- its layout is broken
     pub unread : (base ≡ end → ⊥) → 0 ≡ laidCount (partAt s base (end - base)) → RecordsIn s base end (nothing Broken)
@@ -84,7 +90,7 @@ module _ (s : List ℕ) (base end : ℕ) where
       many : length found ≡ count
       many =
           let l = partAt s base (end - base) in
-          between-length l (offsetsOf count l) ∙ offsets-length count l
+          between-length l (offsetsOf count l) ∙ offsets-count count l
 
       found-in : recordsIn s base end ≡ some found
       found-in = part-in ∙ read .records
@@ -95,29 +101,48 @@ module _ (s : List ℕ) (base end : ℕ) where
           nothing-in TooMany
           (sym (ap verdictOf found-in ∙ rw (many, lt-leb count 32 big)))
           (λ w. cc)
+          refl
 
       module _ (few : count ≤ 32) where
         judged : verdictOf (recordsIn s base end) ≡ cond (goodRecords found) Good Bad
         judged = ap verdictOf found-in ∙ rw (many, le-leb count 32 few)
 
-        module _ (r : Records) (p : PlacesOf s base (end - base) count r) (t : Bool)
-            (is : t ≡ goodAt s (r .starts) (r .lens) count) where
+        -- the places by the offsets
+        abbrev there : Records
+        there = placesAt base (end - base) (offsetsOf count (partAt s base (end - base)))
+
+        held : recordsAt s (there .starts) (there .lens) count ≡ found
+        held = places-hold s base (end - base) count few (omega arith) in-order
+
+        -- they are those that the list must have
+        reported : there ≡ foundOf Good base (partAt s base (end - base))
+        unfolding offsetsIn countOf
+        reported =
+            let l = partAt s base (end - base) in
+            let n : count ≡ countOf l = omega (arith, read .laid .first) in
+            ap₂ (placesAt base) (sym part-size) (ap (λ (k : ℕ). offsetsOf k l) n)
+
+        module _ (r : Records) (p : r ≡ there) (t : Bool) (is : t ≡ goodAt s (r .starts) (r .lens) count) where
           tested : goodRecords found ≡ t
-          tested = sym (is ∙ good-inside s (r .starts) (r .lens) count (p .places) ∙ ap goodRecords (p .records))
+          tested =
+              sym (is
+              ∙ ap (λ (x : Records). goodAt s (x .starts) (x .lens) count) p
+              ∙ good-inside s (there .starts) (there .lens) count (places-in s base (end - base) count few (omega arith) in-order)
+              ∙ ap goodRecords held)
 
           -- a record breaks a rule
           pub bad : not t ≡ true → RecordsIn s base end (nothing Bad)
-          bad e = nothing-in Bad (sym (judged ∙ rw (tested ∙ not-true t e))) (λ w. cc)
+          bad e = nothing-in Bad (sym (judged ∙ rw (tested ∙ not-true t e))) (λ w. cc) refl
 
           -- all is good
           pub good : not t ≡ false → RecordsIn s base end r
           good e =
-              record {
-                verdict = p .verdict ∙ sym (judged ∙ rw (tested ∙ not-false t e));
-                value = λ w. found-in ∙ ap some (sym (p .records) ∙ ap (recordsAt s (r .starts) (r .lens)) (sym (p .counted)));
-                few = omega (arith, p .counted);
-                inside = λ i h. p .places .inside i (omega (arith, p .counted));
-                nothing = λ no. absurd (no (p .verdict));
-                starts = rw (p .counted) (p .starts);
-                lens = rw (p .counted) (p .lens);
-              }
+              let n = offsets-count count (partAt s base (end - base)) in
+              subst (RecordsIn s base end) (sym p)
+              (record {
+                verdict = sym (judged ∙ rw (tested ∙ not-false t e));
+                report = reported;
+                value = λ w. found-in ∙ ap some (sym held ∙ ap (recordsAt s (there .starts) (there .lens)) (sym n));
+                few = omega arith;
+                inside = λ i less. places-in s base (end - base) count few (omega arith) in-order .inside i (omega arith);
+              })

@@ -15,6 +15,7 @@ use Rattle.octets.specs.Bytes.{le}
 use Rattle.message.specs.Records.{offsetOf, offsetsOf, ordered}
 use Rattle.message.specs.Reading.{partAt}
 use Rattle.message.proofs.Tests.{both}
+use Rattle.message.proofs.Records.{offsets-count}
 use Rattle.message_records.specs.Places.{offsetAt}
 
 -- an offset is the number of four bytes, the first one lightest
@@ -48,12 +49,6 @@ pub offset-first : (s : List ℕ) (base size : ℕ) → 4 ≤ size → offsetOf 
 unfolding offsetOf
 offset-first s base size h = ap le (take-take 4 size (drop base s) h)
 
--- n offsets are n
-pub offsets-length : (n : ℕ) (l : List ℕ) → length (offsetsOf n l) ≡ n
-unfolding offsetsOf
-offsets-length zero l = refl
-offsets-length (suc n) l = ap suc (offsets-length n (drop 4 l))
-
 -- each offset has four bytes
 offset-nth : (n : ℕ) (l : List ℕ) (k d : ℕ) → k < n → getD (offsetsOf n l) k d ≡ offsetOf (drop (4 * k) l)
 unfolding offsetsOf
@@ -80,7 +75,7 @@ past-end (o ∷ os) (suc i) d h = past-end os i d (omega arith)
 
 pub offset-end : (l : List ℕ) (size count i : ℕ) → count ≤ i → size ≡ offsetAt l size count i
 unfolding offsetAt
-offset-end l size count i h = sym (past-end (offsetsOf count l) i size (omega (arith, offsets-length count l)))
+offset-end l size count i h = sym (past-end (offsetsOf count l) i size (omega (arith, offsets-count count l)))
 
 -- the order from a place on is the order of two offsets and the order of the rest
 ordered-at : (end : ℕ) (os : List ℕ) (i : ℕ) → i < length os
@@ -95,7 +90,7 @@ ordered-step : (l : List ℕ) (size count i : ℕ) → i < count
     → ordered size (drop i (offsetsOf count l))
     ≡ (leb (offsetAt l size count i) (offsetAt l size count (i + 1)) && ordered size (drop (i + 1) (offsetsOf count l)))
 unfolding offsetAt
-ordered-step l size count i h = rw add-one (ordered-at size (offsetsOf count l) i (omega (arith, offsets-length count l)))
+ordered-step l size count i h = rw add-one (ordered-at size (offsetsOf count l) i (omega (arith, offsets-count count l)))
 
 module _ (l : List ℕ) (size count i a b : ℕ) (here : a ≡ offsetAt l size count i) (next : b ≡ offsetAt l size count (i + 1)) where
   -- an offset above the next one decides
@@ -109,7 +104,7 @@ module _ (l : List ℕ) (size count i a b : ℕ) (here : a ≡ offsetAt l size c
 pub offsets-end : (l : List ℕ) (size count i : ℕ) → count ≤ i → ordered size (drop i (offsetsOf count l)) ≡ true
 unfolding ordered
 offsets-end l size count i h =
-    ap (ordered size) (drop-of-length-le (offsetsOf count l) {i = i} (omega (arith, offsets-length count l)))
+    ap (ordered size) (drop-of-length-le (offsetsOf count l) {i = i} (omega (arith, offsets-count count l)))
 
 -- in order, no offset is above the next
 in-order : (end : ℕ) (os : List ℕ) (i : ℕ) → ordered end os ≡ true → i < length os → getD os i end ≤ getD os (suc i) end
@@ -136,4 +131,4 @@ pub offsets-rise : (l : List ℕ) (size count i : ℕ) → ordered size (offsets
 unfolding offsetAt
 offsets-rise l size count i e h =
     let os = offsetsOf count l in
-    (rw add-one (in-order size os i e (omega (arith, offsets-length count l))), below-end size os (i + 1) e)
+    (rw add-one (in-order size os i e (omega (arith, offsets-count count l))), below-end size os (i + 1) e)

@@ -6,7 +6,7 @@ ghost use lib.ListN.{length, drop};
 ghost use Rattle.message.specs.Records.{offsetOf, offsetsOf, ordered};
 ghost use Rattle.message.specs.Reading.{partAt};
 ghost use Rattle.message_records.specs.Found.{RecordsIn};
-ghost use Rattle.message_records.specs.Places.{nothing, laidCount, offsetAt, PlacesOf};
+ghost use Rattle.message_records.specs.Places.{nothing, laidCount, offsetAt, placesAt};
 
 // What the list comes to.
 pub enum Verdict {
@@ -144,7 +144,7 @@ fn offset_at(s: &[u8], base: usize, size: usize, count: usize, i: usize) -> usiz
 fn places(s: &[u8], base: usize, size: usize, count: usize) -> Records
     requires { ⌜ (base + size ≤ length (now s)) × (4 * count ≤ size) × (count ≤ 32) ⌝ }
     requires { ⌜ ordered size (offsetsOf count (partAt (now s) base size)) ≡ true ⌝ }
-    ensures { λ r. ⌜ PlacesOf (now (s .entry)) base size count r ⌝ }
+    ensures { λ r. ⌜ r ≡ placesAt base size (offsetsOf count (partAt (now (s .entry)) base size)) ⌝ }
 {
     let mut starts = [0usize; 32];
     let mut lens = [0usize; 32];

@@ -5,9 +5,9 @@ use mathlib.Core.Path.{_∙_, sym, ap, ap₂}
 use lib.ListN.{length}
 use borrow.Author.Needs.{needs}
 use Rattle.refusal.specs.declared.Refusal.the-variants.{Layout, ItemRule}
+use Rattle.message.specs.Report.{blankOf, withConnection, withPart}
 use Rattle.message.specs.declared.Kind.the-variants.{FoundContent}
-use Rattle.message_read.specs.Shapes.{blankOf}
-use Rattle.message_read.proofs.Answers.{setPart, setConnection, setPlaces, answer-as, refused-to}
+use Rattle.message_read.proofs.Answers.{placesIn, answer-as, refused-to}
 use Rattle.message_read.proofs.Found.{content-broken, content-long, content-end, content-refused, content-many, content-good}
 use Rattle.message_read.proofs.found_content.Statement.{statement}
 use Rattle.message_read.proofs.found_content.Tie as tie
@@ -91,8 +91,8 @@ returns-4 c =
     let s = r .before .before .before .before .before .args .message .now in
     let end = 1 + r .before .offset .result in
     answer-as
-    (ap (setPart end (length s - end))
-    (ap₂ setConnection {v = setPlaces (r .read-records .result) (blankOf FoundContent)} (c .before .connection-id .ensures) (c .with-records .ensures)))
+    (ap (withPart end (length s - end))
+    (ap₂ withConnection {v = placesIn (blankOf FoundContent) (r .read-records .result)} (c .before .connection-id .ensures) (c .with-records .ensures)))
     (content-good (r .before .before .before .two-offsets .ensures) (r .before .before .if1 .left) (r .before .offset .ensures .0)
     (r .read-records .result) (r .read-records .ensures)
     (sym (at .before .before .reason .ensures) ∙ at .enum-told .given .1) (c .before .before .before .things .ensures) (c .before .before .if2 .left))

@@ -3,7 +3,8 @@ use native.Mathlib.Omega.{arith}
 use mathlib.Core.Path.{_∙_, sym, ap}
 use borrow.Author.Needs.{needs}
 use Rattle.refusal.specs.declared.Refusal.the-variants.{Layout, ItemRule}
-use Rattle.message_read.proofs.Answers.{setTotal, answer-as, refused-to}
+use Rattle.message.specs.Report.{withTotal}
+use Rattle.message_read.proofs.Answers.{answer-as, refused-to}
 use Rattle.message_read.proofs.Shapes.{rest-long}
 use Rattle.message_read.proofs.Found.{nodes-broken, nodes-refused, nodes-zero, nodes-good}
 use Rattle.message_read.proofs.nodes.Statement.{statement}
@@ -64,7 +65,7 @@ returns-4 : tie.Need-returns-4
 returns-4 c =
     let at = c .before .before .before in
     let r = at .before .before .before in
-    answer-as (ap (setTotal _) (c .with-records .ensures))
+    answer-as (ap (withTotal _) (c .with-records .ensures))
     (nodes-good (r .before .before .has-rest .ensures) (r .before .if1 .left) (r .read-records .result) (r .read-records .ensures)
     (sym (at .before .before .reason .ensures) ∙ at .enum-told .given .1) (c .before .if2 .left))
 

@@ -3,8 +3,9 @@ use mathlib.Core.Path.{_∙_, ap, ap₂}
 use mathlib.Core.List.{reverse}
 use borrow.Author.Needs.{needs}
 use Rattle.refusal.specs.declared.Refusal.the-variants.{Layout}
+use Rattle.message.specs.Report.{withRadius}
 use Rattle.message_read.proofs.Lists.{part-rest}
-use Rattle.message_read.proofs.Answers.{setRadius, answer-as, refused-to}
+use Rattle.message_read.proofs.Answers.{answer-as, refused-to}
 use Rattle.message_read.proofs.Shapes.{radius-broken, radius-good}
 use Rattle.message_read.proofs.radius.Statement.{statement}
 use Rattle.message_read.proofs.radius.Tie as tie
@@ -37,7 +38,7 @@ returns-2 c =
     let at = c .before .before .before in
     let s = at .before .before .args .message .now in
     answer-as
-    (ap₂ setRadius (c .before .reversed .ensures ∙ ap reverse (part-rest s 1)) (c .blank .ensures))
+    (ap₂ withRadius (c .before .reversed .ensures ∙ ap reverse (part-rest s 1)) (c .blank .ensures))
     (radius-good (at .before .before .pre) s (at .if1 .left))
 
 pub radius-spec : {M : Type 1} → statement M

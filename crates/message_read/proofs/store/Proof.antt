@@ -3,7 +3,8 @@ use native.Mathlib.Omega.{arith}
 use mathlib.Core.Path.{ap₂}
 use borrow.Author.Needs.{needs}
 use Rattle.refusal.specs.declared.Refusal.the-variants.{Layout, ItemRule}
-use Rattle.message_read.proofs.Answers.{setConnection, answer-as, refused-to}
+use Rattle.message.specs.Report.{withConnection}
+use Rattle.message_read.proofs.Answers.{answer-as, refused-to}
 use Rattle.message_read.proofs.Shapes.{rest-long, store-broken, store-bad, store-good}
 use Rattle.message_read.proofs.store.Statement.{statement}
 use Rattle.message_read.proofs.store.Tie as tie
@@ -46,7 +47,7 @@ returns-3 : tie.Need-returns-3
 returns-3 c =
     let at = c .before .before .before .before in
     answer-as
-    (ap₂ setConnection (c .before .connection-id .ensures) (c .part .ensures))
+    (ap₂ withConnection (c .before .connection-id .ensures) (c .part .ensures))
     (store-good (at .before .has-rest .ensures) (at .if1 .left) (c .before .before .before .things .ensures) (c .before .before .if2 .left))
 
 pub store-spec : {M : Type 1} → statement M

@@ -75,8 +75,7 @@ loop-again c =
 returns : tie.Need-returns Inv-loop μ-loop
 returns c =
     let at = c .before in
-    let start = at .before .before in
-    placed _ _ _ _ (search needs) (search needs) (start .pre .1) _ _ (at .loop .i) (search needs) (at .loop .inv .1) (at .loop .inv .2)
+    placed _ _ _ _ (search needs) _ _ (at .loop .i) (search needs) (at .loop .inv .1) (at .loop .inv .2)
 
 pub places-spec : {M : Type 1} → statement M
 places-spec =

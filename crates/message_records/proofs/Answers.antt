@@ -25,6 +25,11 @@ use Rattle.message_records.specs.declared.Records.{Records}
 use Rattle.message_records.proofs.Filled.{places-in, places-hold}
 use Rattle.message_records.proofs.Layouts.{Read, uncounted}
 
+-- an answer that is a verdict and no more, where the verdict is the right one
+pub judged-as : {s : List ℕ} {base end : ℕ} {v w : Verdict} {r : Records} → RecordsIn s base end (nothing w) → r ≡ nothing v → v ≡ w
+    → RecordsIn s base end r
+judged-as {s} {base} {end} law is same = subst (RecordsIn s base end) (sym (is ∙ ap nothing same)) law
+
 -- a list with no bytes has no offsets
 nothing-found : (base : ℕ) → nothing Good ≡ foundOf Good base []
 unfolding startsOf lensOf gaps offsetsIn countOf offsetsOf offsetOf le

@@ -28,7 +28,7 @@ pub record Filled (f : ℕ → ℕ) (i : ℕ) (a : List ℕ) : Type 0 where
 pub filled-none : (f : ℕ → ℕ) → Filled f 0 (replicate 32 0)
 filled-none f = record { all = refl; used = below-none (λ (k : ℕ). getD (replicate 32 0) k 0 ≡ f k); rest = refl }
 
-filled-more : (f : ℕ → ℕ) (i : ℕ) (a : List ℕ) → i < 32 → Filled f i a → (v : ℕ) → v ≡ f i → Filled f (i + 1) (set a i v)
+pub filled-more : (f : ℕ → ℕ) (i : ℕ) (a : List ℕ) → i < 32 → Filled f i a → (v : ℕ) → v ≡ f i → Filled f (i + 1) (set a i v)
 filled-more f i a h w v is =
     record {
       all = length-set a i v ∙ w .all;
@@ -101,17 +101,6 @@ startOf s base size count k = base + offsetAt (partAt s base size) size count k
 
 abbrev pub lenOf : List ℕ → ℕ → ℕ → ℕ → ℕ → ℕ
 lenOf s base size count k = offsetAt (partAt s base size) size count (k + 1) - offsetAt (partAt s base size) size count k
-
--- a place that is written is one more
-pub place-more : (s : List ℕ) (base size count i : ℕ) → i < 32
-    → (o : ℕ) → o ≡ offsetAt (partAt s base size) size count i
-    → (q : ℕ) → q ≡ offsetAt (partAt s base size) size count (i + 1)
-    → (starts lens : List ℕ) → Filled (startOf s base size count) i starts → Filled (lenOf s base size count) i lens
-    → Filled (startOf s base size count) (i + 1) (set starts i (base + o)) × Filled (lenOf s base size count) (i + 1) (set lens i (q - o))
-place-more s base size count i h o here q next starts lens fs fl = (
-  filled-more (startOf s base size count) i starts h fs (base + o) (ap (λ (x : ℕ). base + x) here),
-  filled-more (lenOf s base size count) i lens h fl (q - o) (ap₂ (λ (x y : ℕ). x - y) next here),
-)
 
 -- a record between the offsets is the part at its place
 between-part : (s : List ℕ) (base size count k : ℕ) → base + size ≤ length s

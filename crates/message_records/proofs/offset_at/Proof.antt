@@ -1,6 +1,6 @@
 -- `message_records::offset_at` meets its contract: an offset stands at its four bytes in the message, and past the last one the answer is
 -- the size (`proofs/Offsets.antt`). Assumes nothing.
-use mathlib.Core.Path.{_∙_}
+use native.Mathlib.Omega.{arith}
 use borrow.Author.Needs.{needs}
 use Rattle.message.specs.Reading.{partAt}
 use Rattle.message_records.proofs.Offsets.{offset-inside, offset-end}
@@ -19,12 +19,12 @@ offset-requires c κs = search needs
 returns : tie.Need-returns
 returns c =
     let a = c .before .before .before .args in
-    c .offset .ensures ∙ offset-inside (a .s .now) (a .base) (a .size) (a .count) (a .i) (search needs) (search needs) (search needs)
+    omega (arith, c .offset .ensures, offset-inside (a .s .now) (a .base) (a .size) (a .count) (a .i) (search needs) (search needs) (search needs))
 
 returns-2 : tie.Need-returns-2
 returns-2 c =
     let a = c .before .before .args in
-    offset-end (partAt (a .s .now) (a .base) (a .size)) (a .size) (a .count) (a .i) (search needs)
+    omega (arith, offset-end (partAt (a .s .now) (a .base) (a .size)) (a .size) (a .count) (a .i) (search needs))
 
 pub offset-at-spec : {M : Type 1} → statement M
 offset-at-spec = tie.close (tie.spec mul-offset add-offset offset-requires returns returns-2)

@@ -33,7 +33,7 @@ returns : tie.Need-returns Inv-loop μ-loop
 returns c =
     let at = c .before .before .before .before in
     sym (at .loop .inv
-    ∙ offset-falls _ _ _ (at .loop .i) _ _ (c .before .before .offset-at .ensures) (c .before .offset-at2 .ensures) (search needs) (c .if1 .taken))
+    ∙ offset-falls _ _ _ (at .loop .i) _ _ (c .before .before .offset-at .ensures) (c .before .offset-at2 .ensures) (search needs) (search needs))
 
 add-i : tie.Need-add-i Inv-loop μ-loop
 add-i c = search needs
@@ -45,7 +45,7 @@ loop-again : tie.Need-loop-again Inv-loop μ-loop
 loop-again c =
     let at = c .before .before .before .before in
     at .loop .inv
-    ∙ offset-rises _ _ _ (at .loop .i) _ _ (c .before .before .offset-at .ensures) (c .before .offset-at2 .ensures) (search needs) (c .if1 .left)
+    ∙ offset-rises _ _ _ (at .loop .i) _ _ (c .before .before .offset-at .ensures) (c .before .offset-at2 .ensures) (search needs) (search needs)
 
 returns-2 : tie.Need-returns-2 Inv-loop μ-loop
 returns-2 c = sym (c .before .loop .inv ∙ offsets-end _ _ _ (c .before .loop .i) (search needs))

@@ -6,7 +6,7 @@ use native.Mathlib.Omega.{arith}
 use borrow.Author.Needs.{needs}
 use Rattle.message.specs.Reading.{partAt}
 use Rattle.message_records.proofs.Offsets.{offsets-rise}
-use Rattle.message_records.proofs.Filled.{Filled, filled-none, startOf, lenOf, place-more, placed}
+use Rattle.message_records.proofs.Filled.{Filled, filled-none, startOf, lenOf, filled-more, placed}
 use Rattle.message_records.proofs.places.Statement.{statement}
 use Rattle.message_records.proofs.places.Tie as tie
 
@@ -49,7 +49,7 @@ array-write-starts : tie.Need-array-write-starts Inv-loop μ-loop
 array-write-starts c = search needs
 
 sub-lens : tie.Need-sub-lens Inv-loop μ-loop
-sub-lens c = rise c .0
+sub-lens c = omega (arith, rise c)
 
 mul-lens : tie.Need-mul-lens Inv-loop μ-loop
 mul-lens c = search needs
@@ -66,11 +66,12 @@ loop-less c = search needs
 loop-again : tie.Need-loop-again Inv-loop μ-loop
 loop-again c =
     let at = c .before .before .before in
-    let a = at .before .before .args in
-    let more =
-    place-more (a .s .now) (a .base) (a .size) (a .count) (at .loop .i) (search needs)
-    _ (c .before .offset-at .ensures) _ (c .offset-at2 .ensures) _ _ (at .loop .inv .1) (at .loop .inv .2) in
-    (search needs, more .0, more .1)
+    let here = c .before .offset-at .ensures in
+    let next = c .offset-at2 .ensures in (
+      search needs,
+      filled-more _ (at .loop .i) _ (search needs) (at .loop .inv .1) _ (omega (arith, here)),
+      filled-more _ (at .loop .i) _ (search needs) (at .loop .inv .2) _ (omega (arith, here, next)),
+    )
 
 returns : tie.Need-returns Inv-loop μ-loop
 returns c =

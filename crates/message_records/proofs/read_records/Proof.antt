@@ -1,12 +1,12 @@
 -- `message_records::read_records` meets its contract: each return is a law of `proofs/Answers.antt`, from the tests that led there and from what
 -- was counted, placed and judged. Assumes nothing.
-use Prim.Native.Nat.{ℕ, _-_}
+use Prim.Native.Nat.{ℕ, _*_, _-_, _≤_}
 use mathlib.Core.Path.{_≡_, _∙_}
 use mathlib.Core.List.{List}
 use borrow.Author.Needs.{needs}
 use Rattle.message.specs.Reading.{partAt}
 use Rattle.message_records.proofs.Layouts.{Read, counted}
-use Rattle.message_records.proofs.Answers.{reversed, outside, no-bytes, unread, room, in-order, too-many, bad, good}
+use Rattle.message_records.proofs.Answers.{judged-as, reversed, outside, no-bytes, unread, room, in-order, too-many, bad, good}
 use Rattle.message_records.proofs.read_records.Statement.{statement}
 use Rattle.message_records.proofs.read_records.Tie as tie
 
@@ -16,25 +16,25 @@ list c = partAt (c .args .message .now) (c .args .base) (c .args .end - c .args 
 
 -- it is read, for as many records as were counted
 read : (c : tie.Else4) → Read (list (c .before .before .before .before .before .before)) (c .before .layout .result)
-read c = counted _ _ (c .before .layout .ensures) (c .if4 .left)
+read c = counted _ _ (c .before .layout .ensures) (search needs)
 
 none-requires : tie.Need-none-requires
 none-requires c κs = search needs
 
 returns : tie.Need-returns
-returns c = rw (c .none .ensures) (reversed _ _ _ (c .before .if1 .taken))
+returns c = judged-as (reversed _ _ _ (search needs)) (c .none .ensures) (search needs)
 
 none-requires-2 : tie.Need-none-requires-2
 none-requires-2 c κs = search needs
 
 returns-2 : tie.Need-returns-2
-returns-2 c = rw (c .none2 .ensures) (outside _ _ _ (c .before .before .if1 .left) (c .before .if2 .taken))
+returns-2 c = judged-as (outside _ _ _ (search needs) (search needs)) (c .none2 .ensures) (search needs)
 
 none-requires-3 : tie.Need-none-requires-3
 none-requires-3 c κs = search needs
 
 returns-3 : tie.Need-returns-3
-returns-3 c = rw (c .none3 .ensures) (no-bytes _ _ _ (c .before .before .before .if1 .left) (c .before .before .if2 .left) (c .before .if3 .taken))
+returns-3 c = judged-as (no-bytes _ _ _ (search needs) (search needs) (search needs)) (c .none3 .ensures) (search needs)
 
 layout-requires : tie.Need-layout-requires
 layout-requires c κs = search needs
@@ -44,10 +44,8 @@ none-requires-4 c κs = search needs
 
 returns-4 : tie.Need-returns-4
 returns-4 c =
-    let at = c .before .before .before in
     let none : 0 ≡ c .before .before .layout .result = search needs in
-    rw (c .none4 .ensures)
-    (unread _ _ _ (at .before .before .if1 .left) (at .before .if2 .left) (at .if3 .left) (none ∙ c .before .before .layout .ensures))
+    judged-as (unread _ _ _ (search needs) (search needs) (search needs) (none ∙ c .before .before .layout .ensures)) (c .none4 .ensures) (search needs)
 
 none-requires-5 : tie.Need-none-requires-5
 none-requires-5 c κs = search needs
@@ -55,17 +53,14 @@ none-requires-5 c κs = search needs
 returns-5 : tie.Need-returns-5
 returns-5 c =
     let at = c .before .before in
-    let low = at .before .before .before .before .if1 .left in
-    let high = at .before .before .before .if2 .left in
-    rw (c .none5 .ensures) (too-many _ _ _ low high _ (read at) (c .before .if5 .taken))
+    judged-as (too-many _ _ _ (search needs) (search needs) _ (read at) (search needs)) (c .none5 .ensures) (search needs)
 
 places-requires : tie.Need-places-requires
 places-requires c κs =
     let got = c .before in
-    let low = got .before .before .before .before .if1 .left in
-    let high = got .before .before .before .if2 .left in
-    let fits = room _ _ _ low high _ (read got) in
-    (search needs, in-order _ _ _ low high _ (read got))
+    let a = got .before .before .before .before .before .before .args in
+    let fits : 4 * got .before .layout .result ≤ a .end - a .base = room _ _ _ (search needs) (search needs) _ (read got) in
+    (search needs, in-order _ _ _ (search needs) (search needs) _ (read got))
 
 good-records-requires : tie.Need-good-records-requires
 good-records-requires c κs = search needs
@@ -76,20 +71,15 @@ none-requires-6 c κs = search needs
 returns-6 : tie.Need-returns-6
 returns-6 c =
     let at = c .before .before .before .before .before in
-    let got = at .before .before in
-    let low = got .before .before .before .before .if1 .left in
-    let high = got .before .before .before .if2 .left in
-    rw (c .none6 .ensures)
-    (bad _ _ _ low high _ (read got) (at .before .if5 .left) _ (at .places .ensures)
+    judged-as
+    (bad _ _ _ (search needs) (search needs) _ (read (at .before .before)) (search needs) _ (at .places .ensures)
     _ (c .before .before .good-records .ensures) (c .before .if6 .taken))
+    (c .none6 .ensures) (search needs)
 
 returns-7 : tie.Need-returns-7
 returns-7 c =
     let at = c .before .before .before .before in
-    let got = at .before .before in
-    let low = got .before .before .before .before .if1 .left in
-    let high = got .before .before .before .if2 .left in
-    good _ _ _ low high _ (read got) (at .before .if5 .left) _ (at .places .ensures)
+    good _ _ _ (search needs) (search needs) _ (read (at .before .before)) (search needs) _ (at .places .ensures)
     _ (c .before .good-records .ensures) (c .if6 .left)
 
 pub read-records-spec : {M : Type 1} → statement M

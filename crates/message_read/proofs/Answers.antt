@@ -1,15 +1,16 @@
 -- Answers and what they stand for: an answer that is the report of its kind needs its value and its places besides. Assumes nothing.
 use Prim.Native.Nat.{ℕ, _+_, _-_, _≤_}
 use native.Mathlib.Omega.{arith}
-use mathlib.Core.Path.{_≡_, refl, sym, ap, subst, _∙_}
+use mathlib.Core.Path.{_≡_, refl, sym, ap, ap₂, subst, _∙_}
 use mathlib.Core.List.{List}
 use lib.ListN.{length, take, drop}
-use Rattle.refusal.specs.Says.{saysOf}
+use Rattle.refusal.specs.Says.{Said, saysOf}
 use Rattle.refusal.specs.Outcome.{Outcome, refusal}
 use Rattle.refusal.specs.declared.Refusal.{Refusal}
 use Rattle.message.specs.Values.{Message}
-use Rattle.message.specs.Report.{blankOf, withPlaces, withRecords, reportOf}
+use Rattle.message.specs.Report.{blankOf, withPart, withPlaces, withRecords, reportOf}
 use Rattle.message.specs.Reading.{readingOf, ReadTo}
+use Rattle.message.specs.declared.Kind.{Kind}
 use Rattle.message.specs.declared.Kind.the-variants.{Refused}
 use Rattle.message.specs.declared.Reading.{Reading}
 use Rattle.message_records.specs.Found.{foundOf, RecordsIn}
@@ -47,5 +48,11 @@ found-places {s} {base} {end} a f good =
     ap (placesIn a) (f .report ∙ ap (λ (v : Verdict). foundOf v base (take (end - base) (drop base s))) good)
 
 -- a refusal, with nothing beside it
-pub refused-to : (why : Refusal) {d : Outcome Message} {s : List ℕ} {a : Reading} → a ≡ blankOf (Refused why) → d ≡ refusal (saysOf why) → ReadTo d s a
-refused-to why {s = s} p q = answer-as p (plain-to (blankOf (Refused why)) refl (omega arith) q refl)
+pub refused-to : {why : Refusal} {d : Outcome Message} {s : List ℕ} {a : Reading} {says : Said} → a ≡ blankOf (Refused why) → d ≡ refusal says → saysOf why ≡ says
+    → ReadTo d s a
+refused-to {why} p q e = answer-as p (plain-to (blankOf (Refused why)) refl (omega arith) (q ∙ ap refusal (sym e)) refl)
+
+-- an answer with a part of the message and no more, where the place is the right one
+pub part-as : {kind : Kind} {start len from size : ℕ} {a : Reading} → a ≡ withPart start len (blankOf kind) → start ≡ from → len ≡ size
+    → a ≡ withPart from size (blankOf kind)
+part-as {kind} p q e = p ∙ ap₂ (λ (x y : ℕ). withPart x y (blankOf kind)) q e

@@ -2,10 +2,9 @@
 use native.Mathlib.Omega.{arith}
 use mathlib.Core.Path.{_∙_, ap}
 use lib.Dec.{eqb}
-use Rattle.refusal.specs.declared.Refusal.the-variants.{Layout, TooManyItems, ItemRule}
 use Rattle.message.specs.Rules.{allDifferent}
 use Rattle.message_read.proofs.Lists.{part-rest}
-use Rattle.message_read.proofs.Answers.{answer-as, refused-to}
+use Rattle.message_read.proofs.Answers.{answer-as, part-as, refused-to}
 use Rattle.message_read.proofs.Shapes.{rest-long, distances-broken, distances-many, distances-equal, distances-good}
 use borrow.Author.Needs.{needs}
 use Rattle.message_read.proofs.distances.Statement.{statement}
@@ -18,7 +17,7 @@ refused-requires : tie.Need-refused-requires
 refused-requires c κs = search needs
 
 returns : tie.Need-returns
-returns c = refused-to Layout (c .refused .ensures) (distances-broken (c .before .before .has-rest .ensures) (c .before .if1 .taken))
+returns c = refused-to (c .refused .ensures) (distances-broken (c .before .before .has-rest .ensures) (c .before .if1 .taken)) (search needs)
 
 sub-len : tie.Need-sub-len
 sub-len c = omega (arith, rest-long (c .before .has-rest .ensures) (c .if1 .left))
@@ -29,7 +28,7 @@ refused-requires-2 c κs = search needs
 returns-2 : tie.Need-returns-2
 returns-2 c =
     let at = c .before .before in
-    refused-to TooManyItems (c .refused2 .ensures) (distances-many (at .before .has-rest .ensures) (at .if1 .left) (c .before .if2 .taken))
+    refused-to (c .refused2 .ensures) (distances-many (at .before .has-rest .ensures) (at .if1 .left) (search needs)) (search needs)
 
 sub-all-different : tie.Need-sub-all-different
 sub-all-different c = omega (arith, rest-long (c .before .before .has-rest .ensures) (c .before .if1 .left))
@@ -49,9 +48,10 @@ refused-requires-3 c κs = search needs
 returns-3 : tie.Need-returns-3
 returns-3 c =
     let at = c .before .before .before .before in
-    refused-to ItemRule (c .refused3 .ensures)
-    (distances-equal (at .before .before .has-rest .ensures) (at .before .if1 .left) (at .if2 .left)
+    refused-to (c .refused3 .ensures)
+    (distances-equal (at .before .before .has-rest .ensures) (at .before .if1 .left) (search needs)
     (c .before .before .all-different .ensures ∙ ap (allDifferent eqb) (part-rest (at .before .before .before .before .args .message .now) 5)) (c .before .if3 .taken))
+    (search needs)
 
 part-requires : tie.Need-part-requires
 part-requires c κs = search needs
@@ -59,8 +59,8 @@ part-requires c κs = search needs
 returns-4 : tie.Need-returns-4
 returns-4 c =
     let at = c .before .before .before .before in
-    answer-as (c .part .ensures)
-    (distances-good (at .before .before .has-rest .ensures) (at .before .if1 .left) (at .if2 .left)
+    answer-as (part-as (c .part .ensures) (omega arith) (omega arith))
+    (distances-good (at .before .before .has-rest .ensures) (at .before .if1 .left) (search needs)
     (c .before .before .all-different .ensures ∙ ap (allDifferent eqb) (part-rest (at .before .before .before .before .args .message .now) 5)) (c .before .if3 .left))
 
 pub distances-spec : {M : Type 1} → statement M

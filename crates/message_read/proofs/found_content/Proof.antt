@@ -4,7 +4,6 @@ use native.Mathlib.Omega.{arith}
 use mathlib.Core.Path.{_∙_, sym, ap, ap₂}
 use lib.ListN.{length}
 use borrow.Author.Needs.{needs}
-use Rattle.refusal.specs.declared.Refusal.the-variants.{Layout, ItemRule}
 use Rattle.message.specs.Report.{blankOf, withConnection, withPart}
 use Rattle.message.specs.declared.Kind.the-variants.{FoundContent}
 use Rattle.message_read.proofs.Answers.{placesIn, answer-as, refused-to}
@@ -21,7 +20,7 @@ refused-requires c κs = search needs
 returns : tie.Need-returns
 returns c =
     let at = c .before .before in
-    refused-to Layout (c .refused .ensures) (content-broken (at .before .before .args .message .now) (at .two-offsets .ensures) (c .before .if1 .taken))
+    refused-to (c .refused .ensures) (content-broken (at .before .before .args .message .now) (at .two-offsets .ensures) (c .before .if1 .taken)) (search needs)
 
 offset-requires : tie.Need-offset-requires
 offset-requires c κs = omega (arith, content-long (c .before .before .before .args .message .now) (c .before .two-offsets .ensures) (c .if1 .left))
@@ -56,10 +55,11 @@ returns-2 : tie.Need-returns-2
 returns-2 c =
     let at = c .before .before .before in
     let r = at .before .before .before in
-    refused-to ItemRule (c .refused3 .ensures)
+    refused-to (c .refused3 .ensures)
     (content-many (r .before .before .before .two-offsets .ensures) (r .before .before .if1 .left) (r .before .offset .ensures .0)
     (r .read-records .result) (r .read-records .ensures)
-    (sym (at .before .before .reason .ensures) ∙ at .enum-told .given .1) (c .before .before .things .ensures) (c .before .if2 .taken))
+    (sym (at .before .before .reason .ensures) ∙ at .enum-told .given .1) (c .before .before .things .ensures) (search needs))
+    (search needs)
 
 connection-id-requires : tie.Need-connection-id-requires
 connection-id-requires c κs =
@@ -79,10 +79,11 @@ returns-3 : tie.Need-returns-3
 returns-3 c =
     let at = c .before .before in
     let r = at .before .before .before in
-    refused-to _ (c .refused2 .ensures)
+    refused-to (c .refused2 .ensures)
     (content-refused (r .before .before .before .two-offsets .ensures) (r .before .before .if1 .left) (r .before .offset .ensures .0)
     (r .read-records .result) (r .read-records .ensures) _
     (sym (at .before .before .reason .ensures) ∙ at .checked .given .1))
+    (search needs)
 
 returns-4 : tie.Need-returns-4
 returns-4 c =
@@ -95,7 +96,7 @@ returns-4 c =
     (ap₂ withConnection {v = placesIn (blankOf FoundContent) (r .read-records .result)} (c .before .connection-id .ensures) (c .with-records .ensures)))
     (content-good (r .before .before .before .two-offsets .ensures) (r .before .before .if1 .left) (r .before .offset .ensures .0)
     (r .read-records .result) (r .read-records .ensures)
-    (sym (at .before .before .reason .ensures) ∙ at .enum-told .given .1) (c .before .before .before .things .ensures) (c .before .before .if2 .left))
+    (sym (at .before .before .reason .ensures) ∙ at .enum-told .given .1) (c .before .before .before .things .ensures) (search needs))
 
 pub found-content-spec : {M : Type 1} → statement M
 found-content-spec =

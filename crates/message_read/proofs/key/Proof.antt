@@ -3,11 +3,10 @@ use native.Mathlib.Omega.{arith}
 use mathlib.Core.Path.{_∙_, ap}
 use mathlib.Core.Bool.{not}
 use borrow.Author.Needs.{needs}
-use Rattle.refusal.specs.declared.Refusal.the-variants.{Layout}
 use Rattle.refusal.proofs.Outcomes.{was-given, was-refused}
 use Rattle.content_key.specs.Key.{keyOf}
 use Rattle.message_read.proofs.Lists.{part-rest}
-use Rattle.message_read.proofs.Answers.{answer-as, refused-to}
+use Rattle.message_read.proofs.Answers.{answer-as, part-as, refused-to}
 use Rattle.message_read.proofs.Shapes.{rest-long, key-broken, key-bad, key-good}
 use Rattle.message_read.proofs.key.Statement.{statement}
 use Rattle.message_read.proofs.key.Tie as tie
@@ -52,7 +51,7 @@ returns c =
     let at = c .before .before .before .before .before in
     let k = was-given _ _ (c .before .before .before .key .ensures .0) (c .before .enum-told .given .1) in
     let start = at .before .before .before in
-    answer-as (c .part .ensures)
+    answer-as (part-as (c .part .ensures) (omega arith) (omega arith))
     (key-good (start .pre) (at .before .has-rest .ensures) (ap not (at .if1 .taken)) (k ∙ ap keyOf (part-rest (start .args .message .now) 5)))
 
 returns-2 : tie.Need-returns-2
@@ -60,13 +59,14 @@ returns-2 c =
     let at = c .before .before .before .before .before .before in
     let k = was-refused _ _ (c .before .before .before .before .key .ensures .0) (c .before .before .checked .given .1) in
     let start = at .before .before .before in
-    refused-to _ (c .refused .ensures)
+    refused-to (c .refused .ensures)
     (key-bad (start .pre) (at .before .has-rest .ensures) (ap not (at .if1 .taken)) (k ∙ ap keyOf (part-rest (start .args .message .now) 5)))
+    (search needs)
 
 returns-3 : tie.Need-returns-3
 returns-3 c =
     let at = c .before .before in
-    refused-to Layout (c .refused2 .ensures) (key-broken (at .before .before .pre) (at .has-rest .ensures) (ap not (c .before .if1 .left)))
+    refused-to (c .refused2 .ensures) (key-broken (at .before .before .pre) (at .has-rest .ensures) (ap not (c .before .if1 .left))) (search needs)
 
 pub key-spec : {M : Type 1} → statement M
 key-spec =

@@ -2,7 +2,6 @@
 use native.Mathlib.Omega.{arith}
 use mathlib.Core.Path.{_∙_, sym, ap}
 use borrow.Author.Needs.{needs}
-use Rattle.refusal.specs.declared.Refusal.the-variants.{Layout, ItemRule}
 use Rattle.message.specs.Report.{withTotal}
 use Rattle.message_read.proofs.Answers.{answer-as, refused-to}
 use Rattle.message_read.proofs.Shapes.{rest-long}
@@ -17,7 +16,7 @@ refused-requires : tie.Need-refused-requires
 refused-requires c κs = search needs
 
 returns : tie.Need-returns
-returns c = refused-to Layout (c .refused .ensures) (nodes-broken (c .before .before .has-rest .ensures) (c .before .if1 .taken))
+returns c = refused-to (c .refused .ensures) (nodes-broken (c .before .before .has-rest .ensures) (c .before .if1 .taken)) (search needs)
 
 read-records-requires : tie.Need-read-records-requires
 read-records-requires c κs = search needs
@@ -46,9 +45,10 @@ returns-2 : tie.Need-returns-2
 returns-2 c =
     let at = c .before .before .before in
     let r = at .before .before .before in
-    refused-to ItemRule (c .refused3 .ensures)
+    refused-to (c .refused3 .ensures)
     (nodes-zero (r .before .before .has-rest .ensures) (r .before .if1 .left) (r .read-records .result) (r .read-records .ensures)
-    (sym (at .before .before .reason .ensures) ∙ at .enum-told .given .1) (c .before .if2 .taken))
+    (sym (at .before .before .reason .ensures) ∙ at .enum-told .given .1) (search needs))
+    (search needs)
 
 with-records-requires : tie.Need-with-records-requires
 with-records-requires c κs = search needs
@@ -57,9 +57,10 @@ returns-3 : tie.Need-returns-3
 returns-3 c =
     let at = c .before .before in
     let r = at .before .before .before in
-    refused-to _ (c .refused2 .ensures)
+    refused-to (c .refused2 .ensures)
     (nodes-refused (r .before .before .has-rest .ensures) (r .before .if1 .left) (r .read-records .result) (r .read-records .ensures) _
     (sym (at .before .before .reason .ensures) ∙ at .checked .given .1))
+    (search needs)
 
 returns-4 : tie.Need-returns-4
 returns-4 c =
@@ -67,7 +68,7 @@ returns-4 c =
     let r = at .before .before .before in
     answer-as (ap (withTotal _) (c .with-records .ensures))
     (nodes-good (r .before .before .has-rest .ensures) (r .before .if1 .left) (r .read-records .result) (r .read-records .ensures)
-    (sym (at .before .before .reason .ensures) ∙ at .enum-told .given .1) (c .before .if2 .left))
+    (sym (at .before .before .reason .ensures) ∙ at .enum-told .given .1) (search needs))
 
 pub nodes-spec : {M : Type 1} → statement M
 nodes-spec =

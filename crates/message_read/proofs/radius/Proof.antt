@@ -2,7 +2,6 @@
 use mathlib.Core.Path.{_∙_, ap, ap₂}
 use mathlib.Core.List.{reverse}
 use borrow.Author.Needs.{needs}
-use Rattle.refusal.specs.declared.Refusal.the-variants.{Layout}
 use Rattle.message.specs.Report.{withRadius}
 use Rattle.message_read.proofs.Lists.{part-rest}
 use Rattle.message_read.proofs.Answers.{answer-as, refused-to}
@@ -16,7 +15,7 @@ refused-requires c κs = search needs
 returns : tie.Need-returns
 returns c =
     let at = c .before .before .before in
-    refused-to Layout (c .refused .ensures) (radius-broken (at .pre) (at .args .message .now) (c .before .if1 .taken))
+    refused-to (c .refused .ensures) (radius-broken (at .pre) (at .args .message .now) (search needs)) (search needs)
 
 sub-reversed : tie.Need-sub-reversed
 sub-reversed c = search needs
@@ -39,7 +38,7 @@ returns-2 c =
     let s = at .before .before .args .message .now in
     answer-as
     (ap₂ withRadius (c .before .reversed .ensures ∙ ap reverse (part-rest s 1)) (c .blank .ensures))
-    (radius-good (at .before .before .pre) s (at .if1 .left))
+    (radius-good (at .before .before .pre) s (search needs))
 
 pub radius-spec : {M : Type 1} → statement M
 radius-spec =

@@ -6,7 +6,6 @@ use mathlib.Core.List.{List}
 use lib.Dec.{leb}
 use lib.ListN.{getD, drop}
 use borrow.Author.Needs.{needs}
-use Rattle.refusal.specs.declared.Refusal.the-variants.{EmptyMessage, LongMessage, MessageType}
 use Rattle.message.specs.Decode.{decode, layoutOf, ruledOr4}
 use Rattle.message_read.specs.Shapes.{is-ping, is-pong, is-find-content, is-offer, is-accept}
 use Rattle.message_read.proofs.Answers.{read-as, refused-to}
@@ -21,19 +20,19 @@ message c = c .before .before .before .before .args .message .now
 -- a message of a type from 1 to 9 comes to the layout of the type and then the rules
 body : (c : tie.After-shared-slice-known2) (kind : ℕ) → getD (message c) 0 0 ≡ kind → (leb 1 kind && leb kind 9) ≡ true
     → decode (message c) ≡ ruledOr4 (layoutOf kind (drop 1 (message c)))
-body c kind e t = decode-body (message c) kind (c .before .before .if1 .left) (c .before .if2 .left) e t
+body c kind e t = decode-body (message c) kind (search needs) (search needs) e t
 
 refused-requires : tie.Need-refused-requires
 refused-requires c κs = search needs
 
 returns : tie.Need-returns
-returns c = refused-to EmptyMessage (c .refused .ensures) (decode-empty (c .before .before .before .args .message .now) (c .before .if1 .taken))
+returns c = refused-to (c .refused .ensures) (decode-empty (c .before .before .before .args .message .now) (search needs)) (search needs)
 
 refused-requires-2 : tie.Need-refused-requires-2
 refused-requires-2 c κs = search needs
 
 returns-2 : tie.Need-returns-2
-returns-2 c = refused-to LongMessage (c .refused2 .ensures) (decode-long (c .before .before .before .before .args .message .now) (c .before .if2 .taken))
+returns-2 c = refused-to (c .refused2 .ensures) (decode-long (c .before .before .before .before .args .message .now) (search needs)) (search needs)
 
 shared-slice-read-kind : tie.Need-shared-slice-read-kind
 shared-slice-read-kind c = search needs
@@ -99,10 +98,11 @@ returns-12 : tie.Need-returns-12
 returns-12 c =
     let at = c .before .before .before in
     let r = c .before .match .rest in
-    refused-to MessageType (c .refused3 .ensures)
-    (decode-type (at .before .before .before .args .message .now) (at .before .if1 .left) (at .if2 .left)
+    refused-to (c .refused3 .ensures)
+    (decode-type (at .before .before .before .args .message .now) (search needs) (search needs)
     (none-of-nine _ (r .0 .0 .0 .0 .0 .0 .0 .0 .1) (r .0 .0 .0 .0 .0 .0 .0 .1) (r .0 .0 .0 .0 .0 .0 .1) (r .0 .0 .0 .0 .0 .1) (r .0 .0 .0 .0 .1)
     (r .0 .0 .0 .1) (r .0 .0 .1) (r .0 .1) (r .1)))
+    (search needs)
 
 pub read-spec : {M : Type 1} → statement M
 read-spec =

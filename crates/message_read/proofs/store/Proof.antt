@@ -2,9 +2,8 @@
 use native.Mathlib.Omega.{arith}
 use mathlib.Core.Path.{ap₂}
 use borrow.Author.Needs.{needs}
-use Rattle.refusal.specs.declared.Refusal.the-variants.{Layout, ItemRule}
 use Rattle.message.specs.Report.{withConnection}
-use Rattle.message_read.proofs.Answers.{answer-as, refused-to}
+use Rattle.message_read.proofs.Answers.{answer-as, part-as, refused-to}
 use Rattle.message_read.proofs.Shapes.{rest-long, store-broken, store-bad, store-good}
 use Rattle.message_read.proofs.store.Statement.{statement}
 use Rattle.message_read.proofs.store.Tie as tie
@@ -16,7 +15,7 @@ refused-requires : tie.Need-refused-requires
 refused-requires c κs = search needs
 
 returns : tie.Need-returns
-returns c = refused-to Layout (c .refused .ensures) (store-broken (c .before .before .has-rest .ensures) (c .before .if1 .taken))
+returns c = refused-to (c .refused .ensures) (store-broken (c .before .before .has-rest .ensures) (c .before .if1 .taken)) (search needs)
 
 things-requires : tie.Need-things-requires
 things-requires c κs = omega (arith, rest-long (c .before .has-rest .ensures) (c .if1 .left))
@@ -27,8 +26,9 @@ refused-requires-2 c κs = search needs
 returns-2 : tie.Need-returns-2
 returns-2 c =
     let at = c .before .before .before in
-    refused-to ItemRule (c .refused2 .ensures)
-    (store-bad (at .before .has-rest .ensures) (at .if1 .left) (c .before .before .things .ensures) (c .before .if2 .taken))
+    refused-to (c .refused2 .ensures)
+    (store-bad (at .before .has-rest .ensures) (at .if1 .left) (c .before .before .things .ensures) (search needs))
+    (search needs)
 
 connection-id-requires : tie.Need-connection-id-requires
 connection-id-requires c κs =
@@ -47,8 +47,8 @@ returns-3 : tie.Need-returns-3
 returns-3 c =
     let at = c .before .before .before .before in
     answer-as
-    (ap₂ withConnection (c .before .connection-id .ensures) (c .part .ensures))
-    (store-good (at .before .has-rest .ensures) (at .if1 .left) (c .before .before .before .things .ensures) (c .before .before .if2 .left))
+    (ap₂ withConnection (c .before .connection-id .ensures) (part-as (c .part .ensures) (omega arith) (omega arith)))
+    (store-good (at .before .has-rest .ensures) (at .if1 .left) (c .before .before .before .things .ensures) (search needs))
 
 pub store-spec : {M : Type 1} → statement M
 store-spec =

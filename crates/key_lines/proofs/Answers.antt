@@ -1,14 +1,14 @@
 -- What is printed for a line, by what its state says: the tests of `finish` and of `last`, in their order.
 -- Assumes nothing.
-use Prim.Native.Nat.{ℕ, _+_, _/_, _%_, _≤_, _<_}
+use Prim.Native.Nat.{ℕ, _+_, _-_, _/_, _%_, _≤_, _<_}
 use mathlib.Core.Bool.{Bool, true, false, cond}
 use mathlib.Core.List.{List, [], _∷_, _++_, append-nil}
 use mathlib.Core.Option.{Option, some, none}
-use mathlib.Core.Path.{_≡_, refl, ap, sym, _∙_}
+use mathlib.Core.Path.{_≡_, refl, ap, ap₂, sym, _∙_}
 use native.Mathlib.Omega.{arith}
 use lib.Dec.{ltb, leb, lit≤}
 use lib.ListN.{length, take, drop, replicate, length-append}
-use lib.Seq.{take-all}
+use lib.Seq.{take-all, take-at}
 use borrow.Author.Tests.{not-true, not-false, lt-ltb, le-ltb}
 use Rattle.refusal.specs.Says.{numberIn}
 use Rattle.refusal.specs.Outcome.{Outcome, given, refusal, refused, mapOutcome}
@@ -19,9 +19,10 @@ use Rattle.hex.proofs.Texts.{pairsOf, bytes-of-pairs, no-bytes-odd, no-bytes-ot
 use Rattle.content_key.specs.Key.{selectorOf, blockOf, keyOf, keyId, contentIdOf}
 use Rattle.content_key.proofs.Keys.{key-length}
 use Rattle.content_key.proofs.Ids.{id-length}
-use Rattle.key_lines.specs.Lines.{printedOf, decodedId, lineOf, lastOf}
+use Rattle.key_lines.specs.Lines.{printedOf, decodedId, lineOf, lastOf, padded}
 use Rattle.key_lines.specs.State.{capped, Begun}
 use Rattle.key_lines.specs.declared.Line.{Line}
+use Rattle.key_lines.specs.declared.Printed.{Printed}
 use Rattle.key_lines.proofs.Lengths.{parity, short}
 use Rattle.key_lines.proofs.States.{first-of}
 
@@ -93,24 +94,45 @@ module _ (line : Line) (text : List ℕ) (b : Begun line text) where
   pub last-some : (line .len ≡ 0 → ⊥) → lineOf text ≡ lastOf text
   last-some n = some-of text (λ e. n (b .count ∙ ap capped e))
 
+-- a line in the array that line feeds fill up
+pub padded-is : (line text : List ℕ) (n : ℕ) → length line ≡ n → text ≡ line ++ replicate (65 - n) 10
+    → _≡_ {A = Printed} (record { text = text; len = n }) (padded line)
+unfolding padded
+padded-is line text n e t =
+    ap₂ (λ (l : List ℕ) (k : ℕ). record { text = l; len = k }) (t ∙ ap (λ (k : ℕ). line ++ replicate (65 - k) 10) (sym e)) (sym e)
+
+-- it is the front of the array
+pub padded-front : (p : Printed) (line : List ℕ) → p ≡ padded line → take (p .len) (p .text) ≡ line
+unfolding padded
+padded-front p line e =
+    ap (λ (q : Printed). take (q .len) (q .text)) e ∙ take-at line (replicate (65 - length line) 10) (length line) refl
+
 -- the line of an id, as `encode` leaves it
-pub id-text : (id : List ℕ) → length id ≡ 32 → take 65 (encodedTo id (replicate 65 10) 0) ≡ printedOf (given id)
-id-text id h =
+pub id-text : (id text : List ℕ) → length id ≡ 32 → text ≡ encodedTo id (replicate 65 10) 0
+    → _≡_ {A = Printed} (record { text = text; len = 65 }) (padded (printedOf (given id)))
+id-text id text h t =
     let d : List ℕ = replicate 65 10 in
     let n : length (textOf id) ≡ 64 = omega (arith, length-text id) in
     let room = fits d 0 (textOf id) (omega (arith, length-text id)) in
-    ap (take 65)
-    (ap (λ (t : Bool). cond t (take 0 d ++ textOf id ++ drop (0 + length (textOf id)) d) d) room
-    ∙ ap (λ (k : ℕ). textOf id ++ drop (0 + k) d) n)
-    ∙ take-all 65 (textOf id ++ (10 ∷ [])) (omega (arith, length-append (textOf id) (10 ∷ [])))
+    padded-is (textOf id ++ (10 ∷ [])) text 65 (omega (arith, length-append (textOf id) (10 ∷ [])))
+    (t
+    ∙ ap (λ (t : Bool). cond t (take 0 d ++ textOf id ++ drop (0 + length (textOf id)) d) d) room
+    ∙ ap (λ (k : ℕ). textOf id ++ drop (0 + k) d) n
+    ∙ sym (append-nil (textOf id ++ (10 ∷ []))))
 
 -- the line of a refusal, of one digit and of two
-pub one-digit : (n : ℕ) → n < 10 → printedOf (refused n) ≡ 114 ∷ 101 ∷ 102 ∷ 117 ∷ 115 ∷ 101 ∷ 100 ∷ 32 ∷ (48 + n) ∷ 10 ∷ []
-one-digit n h = simp (lt-ltb n 10 h)
+pub one-digit : (n : ℕ) (text : List ℕ) → n < 10
+    → text ≡ (114 ∷ 101 ∷ 102 ∷ 117 ∷ 115 ∷ 101 ∷ 100 ∷ 32 ∷ (48 + n) ∷ []) ++ replicate 56 10
+    → _≡_ {A = Printed} (record { text = text; len = 10 }) (padded (printedOf (refused n)))
+one-digit n text h t =
+    padded-is (114 ∷ 101 ∷ 102 ∷ 117 ∷ 115 ∷ 101 ∷ 100 ∷ 32 ∷ (48 + n) ∷ 10 ∷ []) text 10 refl t ∙ ap padded (simp (lt-ltb n 10 h))
 
-pub two-digits : (n : ℕ) → 10 ≤ n
-    → printedOf (refused n) ≡ 114 ∷ 101 ∷ 102 ∷ 117 ∷ 115 ∷ 101 ∷ 100 ∷ 32 ∷ (48 + n / 10) ∷ (48 + n % 10) ∷ 10 ∷ []
-two-digits n h = simp (le-ltb n 10 h)
+pub two-digits : (n : ℕ) (text : List ℕ) → 10 ≤ n
+    → text ≡ (114 ∷ 101 ∷ 102 ∷ 117 ∷ 115 ∷ 101 ∷ 100 ∷ 32 ∷ (48 + n / 10) ∷ (48 + n % 10) ∷ []) ++ replicate 55 10
+    → _≡_ {A = Printed} (record { text = text; len = 11 }) (padded (printedOf (refused n)))
+two-digits n text h t =
+    padded-is (114 ∷ 101 ∷ 102 ∷ 117 ∷ 115 ∷ 101 ∷ 100 ∷ 32 ∷ (48 + n / 10) ∷ (48 + n % 10) ∷ 10 ∷ []) text 11 refl t
+    ∙ ap padded (simp (le-ltb n 10 h))
 
 -- no line is longer than an id's, 65 bytes
 outcome-length : (o : Outcome (List ℕ)) → length (printedOf (mapOutcome keyId o)) ≤ 65

@@ -7,7 +7,7 @@ use mathlib.Core.Path.{_≡_, refl, ap, ap₂, sym, subst, _∙_}
 use lib.ListN.{take, drop}
 use lib.Seq.{take-at}
 use Rattle.key_lines.specs.Lines.{printedFrom, begunBy, lastOf, outputOf}
-use Rattle.key_lines.specs.State.{Begun, Lists}
+use Rattle.key_lines.specs.State.{Begun, Lists, Step}
 use Rattle.key_lines.specs.declared.Line.{Line}
 use Rattle.key_lines.specs.declared.Listed.{Listed}
 use Rattle.key_lines.proofs.Parts.{printed-append, begun-append}
@@ -16,11 +16,6 @@ use Rattle.key_lines.proofs.Parts.{printed-append, begun-append}
 pub output-empty : outputOf [] ≡ []
 unfolding printedFrom begunBy
 output-empty = refl
-
--- from the line `from` the part was taken and `printed` written, which leaves the line `to`
-pub record Step (from : Line) (part printed : List ℕ) (to : Line) : Type 0 where
-  pub prints : (text : List ℕ) → Begun from text → printed ≡ printedFrom text part
-  pub begins : (text : List ℕ) → Begun from text → Begun to (begunBy text part)
 
 -- a call of `list` is a step: it takes what it used, and has printed what it wrote
 pub listed : {line : Line} {input before after : List ℕ} {answer : Listed} → Lists line input before after answer

@@ -1,13 +1,15 @@
 -- What the key lister prints: document 01's "The key lister".
-use Prim.Native.Nat.{ℕ, suc, _+_, _/_, _%_}
+use Prim.Native.Nat.{ℕ, suc, _+_, _-_, _/_, _%_}
 use mathlib.Core.Bool.{cond}
 use mathlib.Core.List.{List, [], _∷_, _++_}
 use mathlib.Core.Option.{Option, some, none}
 use lib.Dec.{eqb, ltb}
+use lib.ListN.{length, replicate}
 use Rattle.refusal.specs.Says.{numberIn}
 use Rattle.refusal.specs.Outcome.{Outcome, given, refusal, refused}
 use Rattle.hex.specs.Digits.{textOf, bytesOf}
 use Rattle.content_key.specs.Key.{contentIdOf}
+use Rattle.key_lines.specs.declared.Printed.{Printed}
 
 -- a number below 100 in decimal digits
 abbrev pub decimalOf : ℕ → List ℕ
@@ -46,6 +48,10 @@ begunBy begun (c ∷ input) = cond (eqb c 10) (begunBy [] input) (begunBy (begun
 abbrev pub lastOf : List ℕ → List ℕ
 lastOf [] = []
 lastOf (c ∷ text) = lineOf (c ∷ text)
+
+-- what is printed, in its array: line feeds fill up the 65 places
+unfoldable pub padded : List ℕ → Printed
+padded line = record { text = line ++ replicate (65 - length line) 10; len = length line }
 
 -- the whole output for the whole input
 abbrev pub outputOf : List ℕ → List ℕ

@@ -33,3 +33,8 @@ pub record Lists (line : Line) (input before after : List ℕ) (answer : Listed)
       → after ≡ printedFrom text (take (answer .used) input) ++ drop (answer .written) before
   pub fits : answer .written ≤ length before
   pub kept : length after ≡ length before
+
+-- from the line `from` the part was taken and `printed` written, which leaves the line `to`
+pub record Step (from : Line) (part printed : List ℕ) (to : Line) : Type 0 where
+  pub prints : (text : List ℕ) → Begun from text → printed ≡ printedFrom text part
+  pub begins : (text : List ℕ) → Begun from text → Begun to (begunBy text part)

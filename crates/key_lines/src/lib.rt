@@ -6,13 +6,13 @@ ghost use Prim.Native.Nat.{ℕ, _+_, _≤_};
 ghost use mathlib.Core.Path.{_≡_};
 ghost use mathlib.Core.Bool.{_||_, not};
 ghost use mathlib.Core.List.{List, [], _++_};
-ghost use lib.ListN.{length, take, drop};
+ghost use lib.ListN.{length, drop};
 ghost use lib.Seq.{paste};
 ghost use Rattle.refusal.specs.Says.{saysOf};
 ghost use Rattle.refusal.specs.Outcome.{given, refusal};
 ghost use Rattle.hex.specs.Digits.{valueOf, isDigit};
 ghost use Rattle.content_key.specs.Key.{contentIdOf};
-ghost use Rattle.key_lines.specs.Lines.{printedOf, lineOf, lineLength, lastOf};
+ghost use Rattle.key_lines.specs.Lines.{printedOf, lineOf, lineLength, lastOf, padded};
 ghost use Rattle.key_lines.specs.State.{capped, Begun, Lists};
 use hex::Digit;
 use refusal::Checked;
@@ -25,7 +25,7 @@ pub struct Line {
     bad: bool,
 }
 
-// What is printed: the first `len` bytes of `text`.
+// What is printed: the first `len` bytes of `text`. Line feeds fill the rest.
 pub struct Printed {
     pub text: [u8; 65],
     pub len: usize,
@@ -79,12 +79,12 @@ pub fn list(line: Line, input: &[u8], out: &mut [u8]) -> Listed
 
 // What is printed for a last line that no line feed ends: nothing where it has no characters.
 pub fn last(line: Line) -> Printed
-    ensures { λ r. ⌜ ((text : List ℕ) → Begun line text → take (r .len) (r .text) ≡ lastOf text) ⌝ }
+    ensures { λ r. ⌜ ((text : List ℕ) → Begun line text → r ≡ padded (lastOf text)) ⌝ }
     ensures { λ r. ⌜ r .len ≤ 65 ⌝ }
 {
     if line.len == 0 {
         return Printed {
-            text: [0u8; 65],
+            text: [b'\n'; 65],
             len: 0,
         };
     }
@@ -151,7 +151,7 @@ fn is_digit(c: u8) -> bool
 
 // What is printed for the line.
 fn finish(line: Line) -> Printed
-    ensures { λ r. ⌜ ((text : List ℕ) → Begun line text → take (r .len) (r .text) ≡ lineOf text) ⌝ }
+    ensures { λ r. ⌜ ((text : List ℕ) → Begun line text → r ≡ padded (lineOf text)) ⌝ }
     ensures { λ r. ⌜ r .len ≤ 65 ⌝ }
 {
     let len = line.len;
@@ -172,7 +172,7 @@ fn finish(line: Line) -> Printed
 
 // What is printed for nine bytes.
 fn key_line(key: [u8; 9]) -> Printed
-    ensures { λ r. ⌜ take (r .len) (r .text) ≡ printedOf (contentIdOf key) ⌝ }
+    ensures { λ r. ⌜ r ≡ padded (printedOf (contentIdOf key)) ⌝ }
     ensures { λ r. ⌜ r .len ≤ 65 ⌝ }
 {
     let answer = content_key::content_id(&key);
@@ -188,7 +188,7 @@ fn key_line(key: [u8; 9]) -> Printed
 
 // An id's line.
 fn id_line(id: [u8; 32]) -> Printed
-    ensures { λ r. ⌜ take (r .len) (r .text) ≡ printedOf (given id) ⌝ }
+    ensures { λ r. ⌜ r ≡ padded (printedOf (given id)) ⌝ }
     ensures { λ r. ⌜ r .len ≤ 65 ⌝ }
 {
     let mut text = [b'\n'; 65];
@@ -198,7 +198,7 @@ fn id_line(id: [u8; 32]) -> Printed
 
 // A refusal's line.
 fn refusal_line(why: Refusal) -> Printed
-    ensures { λ r. ⌜ take (r .len) (r .text) ≡ printedOf (refusal (saysOf why)) ⌝ }
+    ensures { λ r. ⌜ r ≡ padded (printedOf (refusal (saysOf why))) ⌝ }
     ensures { λ r. ⌜ r .len ≤ 65 ⌝ }
 {
     let mut text = [b'\n'; 65];

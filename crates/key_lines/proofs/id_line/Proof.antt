@@ -1,7 +1,5 @@
 -- `key_lines::id_line` meets its contract: `encode` leaves the id's 64 digits before the last line feed.
 -- Assumes nothing.
-use mathlib.Core.Path.{_∙_, ap}
-use lib.ListN.{take}
 use Rattle.key_lines.proofs.Answers.{id-text}
 use borrow.Author.Needs.{needs}
 use Rattle.key_lines.proofs.id_line.Statement.{statement}
@@ -18,7 +16,7 @@ encode-requires c κs = search needs
 
 returns : tie.Need-returns
 returns c =
-    (ap (take 65) (c .before .encode .ensures .1) ∙ id-text (c .before .before .before .before .args .t1) (search needs), search needs)
+    (id-text (c .before .before .before .before .args .t1) _ (search needs) (c .before .encode .ensures .1), search needs)
 
 pub id-line-spec : {M : Type 1} → statement M
 id-line-spec =

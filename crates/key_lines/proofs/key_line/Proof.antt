@@ -1,8 +1,11 @@
 -- `key_lines::key_line` meets its contract: each arm prints the outcome that `content_id` answers.
 -- Assumes nothing.
+use Prim.Native.Nat.{ℕ}
+use mathlib.Core.List.{List}
 use mathlib.Core.Path.{_∙_, ap}
+use Rattle.refusal.specs.Outcome.{Outcome}
 use Rattle.refusal.proofs.Outcomes.{was-given, was-refused}
-use Rattle.key_lines.specs.Lines.{printedOf}
+use Rattle.key_lines.specs.Lines.{printedOf, padded}
 use borrow.Author.Needs.{needs}
 use Rattle.key_lines.proofs.key_line.Statement.{statement}
 use Rattle.key_lines.proofs.key_line.Tie as tie
@@ -28,12 +31,12 @@ refusal-line-requires c κs = search needs
 returns : tie.Need-returns
 returns c =
     let k = was-given _ _ (c .before .before .before .before .content-id .ensures .0) (c .before .before .enum-told .given .1) in
-    (c .id-line .ensures .0 ∙ ap printedOf k, c .id-line .ensures .1)
+    (c .id-line .ensures .0 ∙ ap (λ (o : Outcome (List ℕ)). padded (printedOf o)) k, c .id-line .ensures .1)
 
 returns-2 : tie.Need-returns-2
 returns-2 c =
     let k = was-refused _ _ (c .before .before .before .before .content-id .ensures .0) (c .before .before .checked .given .1) in
-    (c .refusal-line .ensures .0 ∙ ap printedOf k, c .refusal-line .ensures .1)
+    (c .refusal-line .ensures .0 ∙ ap (λ (o : Outcome (List ℕ)). padded (printedOf o)) k, c .refusal-line .ensures .1)
 
 pub key-line-spec : {M : Type 1} → statement M
 key-line-spec =

@@ -4,6 +4,7 @@ use Prim.Native.Nat.{_-_}
 use native.Mathlib.Omega.{arith}
 use lib.ListN.{length}
 use borrow.Author.Needs.{needs}
+use Rattle.key_lines.proofs.Answers.{padded-front}
 use Rattle.key_lines.proofs.Turns.{Through, start, end-inside, grown, ended, done}
 use Rattle.key_lines.proofs.list.Statement.{statement}
 use Rattle.key_lines.proofs.list.Tie as tie
@@ -62,7 +63,7 @@ loop-again c =
     let wrote = c .before .before .before .put in
     ended _ _ _ _ _ _ _ (at .loop .inv) _ (end .ensures) _ (fed .feed .ensures) (c .before .before .before .before .before .before .if2 .taken)
     (omega (arith, fed .before .before .before .if1 .left, at .loop .inv))
-    _ _ (search needs) (finished .ensures .1) (finished .ensures .0) _ (wrote .ensures .1) _ (wrote .ensures .0) _ (c .fresh .ensures)
+    _ _ (search needs) (finished .ensures .1) (λ text b. padded-front _ _ (finished .ensures .0 text b)) _ (wrote .ensures .1) _ (wrote .ensures .0) _ (c .fresh .ensures)
 
 loop-less-2 : tie.Need-loop-less-2 Inv-loop μ-loop
 loop-less-2 c = search needs

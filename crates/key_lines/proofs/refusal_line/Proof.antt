@@ -1,9 +1,9 @@
 -- `key_lines::refusal_line` meets its contract: the stores make the list that the definition gives for one digit, or for two.
 -- Assumes nothing.
 use Prim.Native.Nat.{ℕ}
-use mathlib.Core.Path.{_∙_, sym, ap}
+use mathlib.Core.Path.{_∙_, ap, refl}
 use Rattle.refusal.specs.Outcome.{refused}
-use Rattle.key_lines.specs.Lines.{printedOf}
+use Rattle.key_lines.specs.Lines.{printedOf, padded}
 use Rattle.key_lines.proofs.Answers.{one-digit, two-digits}
 use borrow.Author.Needs.{needs}
 use Rattle.key_lines.proofs.refusal_line.Statement.{statement}
@@ -44,7 +44,7 @@ array-write-text-9 c = search needs
 
 returns : tie.Need-returns
 returns c =
-    (sym (ap (λ (n : ℕ). printedOf (refused n)) (sym (c .before .number .ensures)) ∙ one-digit _ (c .if1 .taken)), search needs)
+    (one-digit _ _ (c .if1 .taken) refl ∙ ap (λ (n : ℕ). padded (printedOf (refused n))) (c .before .number .ensures), search needs)
 
 add-text-2 : tie.Need-add-text-2
 add-text-2 c = search needs
@@ -60,7 +60,7 @@ array-write-text-11 c = search needs
 
 returns-2 : tie.Need-returns-2
 returns-2 c =
-    (sym (ap (λ (n : ℕ). printedOf (refused n)) (sym (c .before .number .ensures)) ∙ two-digits _ (c .if1 .left)), search needs)
+    (two-digits _ _ (c .if1 .left) refl ∙ ap (λ (n : ℕ). padded (printedOf (refused n))) (c .before .number .ensures), search needs)
 
 pub refusal-line-spec : {M : Type 1} → statement M
 refusal-line-spec =

@@ -11,8 +11,8 @@ use lib.ListN.{length, getD, take, drop, replicate, length-drop}
 use lib.Seq.{take-nil, take-at, drop-at, take-take, drop-drop, length-take-le}
 use Rattle.octets.specs.Bytes.{Bytes}
 use Rattle.octets.proofs.Numbers.{bytes-take, bytes-drop}
+use Rattle.key_index.specs.Keys.{Each, NineBytes}
 use Rattle.key_index.specs.View.{chunks, keyAt}
-use Rattle.key_index.proofs.Each.{Each}
 
 -- the bytes after nine and m keys more
 pub next : (m : ℕ) (b : List ℕ) → drop (9 * m) (drop 9 b) ≡ drop (9 * suc m) b
@@ -113,11 +113,6 @@ keyAt-out b i h = rw (lt-leb (9 * suc i) (length b) h)
 -- the key that the code reads is the one of the list
 pub keyAt-chunks : (n i : ℕ) (b : List ℕ) → i < n → 9 * n ≤ length b → keyAt b i ≡ getD (chunks n b) i []
 keyAt-chunks n i b h l = keyAt-in b i (omega arith) ∙ sym (getD-chunks n i b h)
-
--- nine bytes
-pub record NineBytes (k : List ℕ) : Type 0 where
-  pub size : length k ≡ 9
-  pub bytes : Bytes k
 
 -- each key of an array that is long enough has nine bytes
 pub chunks-nine : (n : ℕ) (b : List ℕ) → 9 * n ≤ length b → Bytes b → Each NineBytes (chunks n b)

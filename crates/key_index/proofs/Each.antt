@@ -5,11 +5,7 @@ use mathlib.Core.Path.{_≡_, sym, subst}
 use mathlib.Core.Logic.{_⊎_, inl, inr}
 use mathlib.Core.List.{List, [], _∷_, List·Memᴰ, List·Memᴰ·cases-cons, List·Memᴰ·not-nil}
 use lib.ListN.{length, getD}
-
--- P of each key
-abbrev pub Each : (List ℕ → Type 0) → List (List ℕ) → Type 0
-Each P [] = Unit {0}
-Each P (k ∷ ks) = P k × Each P ks
+use Rattle.key_index.specs.Keys.{Each}
 
 -- of the key at a place
 pub each-at : (P : List ℕ → Type 0) (ks : List (List ℕ)) (i : ℕ) → Each P ks → i < length ks → P (getD ks i [])

@@ -16,10 +16,11 @@ use Rattle.key_index.specs.Good.{awayFrom, good}
 use Rattle.key_index.specs.Calls.{isHeld}
 use Rattle.key_index.specs.Search.{placeFrom, placeOf}
 use Rattle.key_index.specs.declared.Place.the-variants.{At}
-use Rattle.key_index.proofs.Each.{Each}
+use Rattle.key_index.specs.Keys.{Each}
+use Rattle.key_index.specs.Rules.{SortedFrom}
 use Rattle.key_index.proofs.Places.{place-inside, place-is, held-at}
-use Rattle.key_index.proofs.Rules.{SortedFrom, good-facts, facts-good}
-use Rattle.key_remove.specs.Remove.{without}
+use Rattle.key_index.proofs.Rules.{good-facts, facts-good}
+use Rattle.key_remove.specs.Remove.{without, Split}
 
 -- the keys around the place where the key was found, counted from i
 record Around (i : ℕ) (key : List ℕ) (keys : List (List ℕ)) (j : ℕ) : Type 0 where
@@ -47,13 +48,6 @@ pub without-place : (key : List ℕ) (keys : List (List ℕ)) (i : ℕ) → plac
 without-place key keys i e =
     let a = around 0 key keys i e in
     a .rest ∙ sym (ap (λ (n : ℕ). take n keys ++ drop (suc n) keys) (a .counted ∙ zero-add (a .place)))
-
--- a list of keys that holds one, taken apart around it
-pub record Split (key : List ℕ) (keys : List (List ℕ)) : Type 0 where
-  pub before : List (List ℕ)
-  pub after : List (List ℕ)
-  pub whole : keys ≡ before ++ key ∷ after
-  pub rest : without key keys ≡ before ++ after
 
 -- the others keep their order
 pub without-split : (key : List ℕ) (keys : List (List ℕ)) → holds sameBytes key keys ≡ true → Split key keys

@@ -1,7 +1,8 @@
 -- Removing a key, on the view of an index, over the limit on its keys. The tests come in document 01's order: 0, 7, 8, 12.
 use Prim.Native.Nat.{ℕ}
 use mathlib.Core.Bool.{cond}
-use mathlib.Core.List.{List, [], _∷_}
+use mathlib.Core.List.{List, [], _∷_, _++_}
+use mathlib.Core.Path.{_≡_}
 use Rattle.refusal.specs.Says.{Said, only}
 use Rattle.refusal.specs.Outcome.{Outcome}
 use Rattle.octets.specs.Equal.{sameBytes}
@@ -19,6 +20,13 @@ pub data Removing : Type 0 where
 unfoldable pub without : List ℕ → List (List ℕ) → List (List ℕ)
 without key [] = []
 without key (k ∷ ks) = cond (sameBytes key k) ks (k ∷ without key ks)
+
+-- a list of keys that holds one, taken apart around it
+pub record Split (key : List ℕ) (keys : List (List ℕ)) : Type 0 where
+  pub before : List (List ℕ)
+  pub after : List (List ℕ)
+  pub whole : keys ≡ before ++ key ∷ after
+  pub rest : without key keys ≡ before ++ after
 
 -- 7 or 8 for what is no key, 12 for a key that is not held
 abbrev pub keyRemoveOf : View → Outcome (List ℕ) → Removing

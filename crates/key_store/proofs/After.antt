@@ -17,18 +17,13 @@ use Rattle.nearest.proofs.Insert.{insert-only, insert-sorted}
 use Rattle.nearest.proofs.Offer.{offer-room}
 use Rattle.key_index.specs.View.{View, withKeys}
 use Rattle.key_index.specs.Good.{awayFrom, good, lastOf}
-use Rattle.key_index.proofs.Each.{Each, each-member}
-use Rattle.key_index.proofs.Chunks.{NineBytes}
+use Rattle.key_index.specs.Keys.{Each, NineBytes}
+use Rattle.key_index.proofs.Each.{each-member}
 use Rattle.key_index.proofs.Rules.{good-facts, facts-good}
-use Rattle.key_store.specs.Store.{Storing, refused, stored, evicted, storeOf}
-use Rattle.key_store.proofs.Facts.{OfBytes, sorted-near, near-sorted}
-use Rattle.key_store.proofs.Cases.{Fresh, Stores, bad, no-length, no-selector, no-content, held, beyond, room, full, store-cases}
-
--- the view to go on with
-abbrev pub nextOf : View → Storing → View
-nextOf v (refused says) = v
-nextOf v (stored w) = w
-nextOf v (evicted key w) = w
+use Rattle.key_store.specs.Store.{Storing, refused, stored, evicted, storeOf, nextOf}
+use Rattle.key_store.specs.Cases.{OfBytes, Fresh, Stores, bad, no-length, no-selector, no-content, held, beyond, room, full}
+use Rattle.key_store.proofs.Facts.{sorted-near, near-sorted}
+use Rattle.key_store.proofs.Cases.{store-cases}
 
 -- a fact of each key, from one of each member
 each-all : (P : List ℕ → Type 0) (ks : List (List ℕ)) → ((k : List ℕ) → k among ks → P k) → Each P ks

@@ -22,36 +22,10 @@ use Rattle.key_index.specs.Good.{awayFrom, good, lastOf, radiusOf}
 use Rattle.key_index.specs.Calls.{isHeld}
 use Rattle.key_index.proofs.Rules.{good-facts}
 use Rattle.key_store.specs.Store.{Storing, refused, stored, evicted, putOf, admitOf, storeOf}
+use Rattle.key_store.specs.Cases.{OfBytes, Asked, Fresh, Stores, bad, no-length, no-selector, no-content, held, beyond, room, full}
 use Rattle.key_store.proofs.Answers.{store-bad, store-key, store-content, store-admit, admit-held, admit-far, admit-put}
-use Rattle.key_store.proofs.Facts.{OfBytes, new-distance, reach-room, nearer-last, last-apart}
+use Rattle.key_store.proofs.Facts.{new-distance, reach-room, nearer-last, last-apart}
 use Rattle.key_store.proofs.Putting.{put-room, put-full}
-
--- a key with acceptable content, asked of a good index
-pub record Asked (limit : ℕ) (v : View) (key content : List ℕ) : Type 0 where
-  pub kept : good limit v ≡ true
-  pub size : length key ≡ 9
-  pub selector : selectorOf key ≤ 1
-  pub listed : acceptable content ≡ true
-
--- one that is not held, by its bytes and by its distance
-pub record Fresh (v : View) (key : List ℕ) : Type 0 where
-  pub out : ¬ (key among v .keys)
-  pub apart : ¬ (awayFrom (v .node) key among distances (awayFrom (v .node)) (v .keys))
-
--- a call and its outcome: each refusal with its reason; stored below the limit; at the limit stored with the last key evicted, which is
--- farther than the new one
-pub data Stores (limit : ℕ) (v : View) (key content : List ℕ) : Storing → Type 0 where
-  bad : good limit v ≡ false → Stores limit v key content (refused (only 0))
-  no-length : good limit v ≡ true → ¬ (length key ≡ 9) → Stores limit v key content (refused (only 7))
-  no-selector : good limit v ≡ true → length key ≡ 9 → 1 < selectorOf key → Stores limit v key content (refused (only 8))
-  no-content : good limit v ≡ true → length key ≡ 9 → selectorOf key ≤ 1 → acceptable content ≡ false → Stores limit v key content (refused (only 9))
-  held : Asked limit v key content → key among v .keys → Stores limit v key content (refused (only 11))
-  beyond : Asked limit v key content → Fresh v key → be (radiusOf limit v) < awayFrom (v .node) key → Stores limit v key content (refused (only 10))
-  room : Asked limit v key content → Fresh v key → length (v .keys) < limit → awayFrom (v .node) key ≤ be (v .cap)
-      → Stores limit v key content (stored (withKeys v (insert (awayFrom (v .node)) key (v .keys))))
-  full : Asked limit v key content → Fresh v key → length (v .keys) ≡ limit → (front : List (List ℕ)) → v .keys ≡ front ++ lastOf (v .keys) ∷ []
-      → awayFrom (v .node) key < awayFrom (v .node) (lastOf (v .keys))
-      → Stores limit v key content (evicted (lastOf (v .keys)) (withKeys v (offer (awayFrom (v .node)) limit key (v .keys))))
 
 module _ (limit : ℕ) (v : View) (key content : List ℕ) (some : 0 < limit) (o : OfBytes v) (bytes : Bytes key) where
   put-cases : Asked limit v key content → Fresh v key → awayFrom (v .node) key ≤ be (radiusOf limit v) → Stores limit v key content (putOf limit v key)

@@ -24,16 +24,13 @@ use Rattle.nearest.proofs.Lists.{middle-self, last-split}
 use Rattle.key_index.specs.View.{View, chunks, keyAt}
 use Rattle.key_index.specs.Good.{awayFrom, good, lastOf, radiusOf}
 use Rattle.key_index.specs.Calls.{isHeld}
-use Rattle.key_index.proofs.Each.{Each, each-member}
-use Rattle.key_index.proofs.Chunks.{NineBytes, chunks-length, keyAt-in}
-use Rattle.key_index.proofs.Rules.{SortedFrom, Good, good-facts}
+use Rattle.key_index.specs.Keys.{NineBytes}
+use Rattle.key_index.specs.Rules.{SortedFrom, Good}
+use Rattle.key_index.proofs.Each.{each-member}
+use Rattle.key_index.proofs.Chunks.{chunks-length, keyAt-in}
+use Rattle.key_index.proofs.Rules.{good-facts}
 use Rattle.key_index.proofs.Answers.{last-chunks}
-
--- a view made of bytes, as that of any index: a node id of 32 and keys of nine
-pub record OfBytes (v : View) : Type 0 where
-  pub size : length (v .node) ≡ 32
-  pub node : Bytes (v .node)
-  pub each : Each NineBytes (v .keys)
+use Rattle.key_store.specs.Cases.{OfBytes}
 
 -- the two ways to say sorted
 pub sorted-near : (node : List ℕ) (from : ℕ) (ks : List (List ℕ)) → SortedFrom node from ks → near.SortedFrom (awayFrom node) from ks

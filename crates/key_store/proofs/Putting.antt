@@ -18,13 +18,15 @@ use Rattle.key_index.specs.View.{View, view, chunks, keyAt, withKeys}
 use Rattle.key_index.specs.Good.{awayFrom, good, lastOf, radiusOf}
 use Rattle.key_index.specs.Calls.{isHeld}
 use Rattle.key_index.specs.declared.KeyIndex.{KeyIndex}
-use Rattle.key_index.proofs.Chunks.{NineBytes, chunks-length, chunks-more, keyAt-in}
+use Rattle.key_index.proofs.Chunks.{chunks-length, chunks-more, keyAt-in}
 use Rattle.key_index.proofs.Rules.{good-facts}
 use Rattle.key_store.specs.Store.{stored, evicted, putOf}
 use Rattle.key_store.specs.Move.{nearer, keyAtPlace, withBytes}
 use Rattle.key_store.proofs.Nearer.{nearer-most, nearer-front, insert-behind}
 use Rattle.key_store.proofs.Flat.{chunks-place}
-use Rattle.key_store.proofs.Facts.{OfBytes, sorted-near, new-distance, nearer-last, full-count, full-last}
+use Rattle.key_index.specs.Keys.{NineBytes}
+use Rattle.key_store.specs.Cases.{OfBytes}
+use Rattle.key_store.proofs.Facts.{sorted-near, new-distance, nearer-last, full-count, full-last}
 
 module _ (limit : ℕ) (v : View) (key : List ℕ) where
   pub put-room : length (v .keys) < limit → putOf limit v key ≡ stored (withKeys v (insert (awayFrom (v .node)) key (v .keys)))

@@ -1,3 +1,4 @@
 pub mod Store
 pub mod Answer
 pub mod Move
+pub mod Cases

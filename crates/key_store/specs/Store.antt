@@ -21,6 +21,12 @@ pub data Storing : Type 0 where
   stored : View → Storing
   evicted : List ℕ → View → Storing
 
+-- the view to go on with
+abbrev pub nextOf : View → Storing → View
+nextOf v (refused says) = v
+nextOf v (stored w) = w
+nextOf v (evicted key w) = w
+
 -- the key goes to its place by distance; a full index loses its farthest key, which is named
 unfoldable pub putOf : ℕ → View → List ℕ → Storing
 putOf limit v key =

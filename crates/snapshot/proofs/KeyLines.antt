@@ -16,9 +16,8 @@ use Rattle.hex.proofs.Texts.{length-text}
 use Rattle.content_key.specs.Key.{selectorOf}
 use Rattle.key_index.specs.View.{View, freshOf, withKeys}
 use Rattle.key_index.specs.Good.{awayFrom}
-use Rattle.key_index.proofs.Each.{Each}
-use Rattle.key_index.proofs.Chunks.{NineBytes}
-use Rattle.key_index.proofs.Rules.{GoodKeys}
+use Rattle.key_index.specs.Keys.{Each, NineBytes}
+use Rattle.key_index.specs.Rules.{GoodKeys}
 use Rattle.snapshot.specs.Text.{lineOf, keyLines}
 use Rattle.snapshot.specs.Load.{Loading, badLine, loaded, isFrame, frameOf, afterFrame, keyIn, isKeyLine, before, ending, keysOf}
 use Rattle.snapshot.proofs.Frames.{framed, line-frame, line-gives, line-rest}

@@ -4,4 +4,4 @@ pub mod RoundTrip
 pub mod Answers
 pub mod Reading
 pub mod Writing
-pub mod Loading
+pub mod Turns

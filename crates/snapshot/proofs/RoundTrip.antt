@@ -16,21 +16,14 @@ use Rattle.hex.specs.Digits.{textOf}
 use Rattle.hex.proofs.Texts.{length-text}
 use Rattle.key_index.specs.View.{View}
 use Rattle.key_index.specs.Good.{good}
-use Rattle.key_index.proofs.Each.{Each}
-use Rattle.key_index.proofs.Chunks.{NineBytes}
-use Rattle.key_index.proofs.Rules.{GoodKeys, good-facts, facts-good}
+use Rattle.key_index.specs.Keys.{Each, NineBytes}
+use Rattle.key_index.specs.Rules.{GoodKeys}
+use Rattle.key_index.proofs.Rules.{good-facts, facts-good}
 use Rattle.snapshot.specs.Text.{lineOf, headFrame, headerOf, keyLines, snapshotOf}
 use Rattle.snapshot.specs.Load.{badLine, loaded, isFrame, frameOf, afterFrame, keysOf, nodeIn, capIn, countIn, isHeader, loadOf}
+use Rattle.snapshot.specs.Shape.{Shaped}
 use Rattle.snapshot.proofs.Frames.{framed, line-frame, line-gives, line-rest}
 use Rattle.snapshot.proofs.KeyLines.{Got, keys-got, keys-back, lines-length}
-
--- a view with a node id and a cap of 32 bytes each, and keys of nine bytes each
-pub record Shaped (v : View) : Type 0 where
-  pub node-size : length (v .node) ≡ 32
-  pub node-bytes : Bytes (v .node)
-  pub cap-size : length (v .cap) ≡ 32
-  pub cap-bytes : Bytes (v .cap)
-  pub nine : Each NineBytes (v .keys)
 
 -- 66 bytes that start with 01 are the frame of a first line
 head-parts : (f : List ℕ) → length f ≡ 66 → getD f 0 0 ≡ 1 → headFrame (take 32 (drop 1 f)) (take 32 (drop 33 f)) (getD f 65 0) ≡ f

@@ -21,8 +21,8 @@ use Rattle.snapshot.specs.Load.{Loading, badLine, loaded, afterFrame, ke
 use Rattle.snapshot.specs.Parts.{lowest, ReadsHeader, ReadsKey}
 use Rattle.snapshot.specs.Calls.{now, back, reloadedBy, reloadFor, meaningOf}
 use Rattle.snapshot.specs.declared.ReloadAnswer.{ReloadAnswer}
-use Rattle.snapshot.specs.declared.Header.{Header}
-use Rattle.snapshot.specs.declared.KeyLine.{KeyLine}
+use Rattle.snapshot.specs.declared.loading.Header.{Header}
+use Rattle.snapshot.specs.declared.loading.KeyLine.{KeyLine}
 use Rattle.snapshot.proofs.Frames.{framed}
 use Rattle.snapshot.proofs.KeyLines.{key-facts, key-nine}
 use Rattle.snapshot.proofs.RoundTrip.{header-facts}

@@ -19,7 +19,7 @@ use Rattle.hex.specs.Buffer.{encodedTo}
 use Rattle.hex.proofs.Texts.{length-text, text-append}
 use Rattle.key_index.specs.View.{View, chunks, keyAt}
 use Rattle.key_index.specs.Good.{good}
-use Rattle.key_index.proofs.Each.{Each}
+use Rattle.key_index.specs.Keys.{Each}
 use Rattle.key_index.proofs.Chunks.{chunks-length, chunks-more, keyAt-in}
 use Rattle.key_index.proofs.Rules.{good-facts}
 use Rattle.snapshot.specs.Text.{lineOf, headFrame, keyLines, snapshotOf}

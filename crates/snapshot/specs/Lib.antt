@@ -2,3 +2,4 @@ pub mod Text
 pub mod Load
 pub mod Calls
 pub mod Parts
+pub mod Shape

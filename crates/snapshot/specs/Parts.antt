@@ -9,8 +9,8 @@ use Rattle.octets.specs.Bytes.{be}
 use Rattle.distance.specs.Distance.{xorOf}
 use Rattle.content_key.specs.Key.{selectorOf, keyId}
 use Rattle.snapshot.specs.Load.{isFrame, frameOf, keyIn, isKeyLine, nodeIn, capIn, countIn, isHeader}
-use Rattle.snapshot.specs.declared.Header.{Header}
-use Rattle.snapshot.specs.declared.KeyLine.{KeyLine}
+use Rattle.snapshot.specs.declared.loading.Header.{Header}
+use Rattle.snapshot.specs.declared.loading.KeyLine.{KeyLine}
 
 -- the frame after a line was read into it: the line's, or as it was where the text does not start with such a line
 unfoldable pub readInto : List ℕ → List ℕ → List ℕ

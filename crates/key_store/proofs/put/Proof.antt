@@ -13,11 +13,12 @@ use Rattle.octets.proofs.Numbers.{bytes-all}
 use Rattle.key_index.specs.View.{view, chunks}
 use Rattle.key_index.specs.Good.{awayFrom, radiusOf}
 use Rattle.key_index.specs.declared.KeyIndex.{KeyIndex}
-use Rattle.key_index.proofs.Chunks.{NineBytes, chunks-length, chunks-nine}
+use Rattle.key_index.proofs.Chunks.{chunks-length, chunks-nine}
 use Rattle.key_index.proofs.Rules.{good-facts}
 use Rattle.key_store.specs.Answer.{now, without, givenBy, evictedOr0}
 use Rattle.key_store.specs.Move.{nearer}
-use Rattle.key_store.proofs.Facts.{OfBytes}
+use Rattle.key_store.specs.Cases.{OfBytes}
+use Rattle.key_index.specs.Keys.{NineBytes}
 use Rattle.key_store.proofs.Nearer.{nearer-most}
 use Rattle.key_store.proofs.Putting.{room-answer, full-place, full-answer}
 use borrow.Author.Needs.{needs}

@@ -1,8 +1,8 @@
--- `snapshot::farther` meets its contract: the two cases of the least distance (`proofs/Answers.antt`). Assumes nothing.
+-- `snapshot::loading::farther` meets its contract: the two cases of the least distance (`proofs/Answers.antt`). Assumes nothing.
 use borrow.Author.Needs.{needs}
 use Rattle.snapshot.proofs.Answers.{first-farther, later-farther}
-use Rattle.snapshot.proofs.farther.Statement.{statement}
-use Rattle.snapshot.proofs.farther.Tie as tie
+use Rattle.snapshot.proofs.loading.farther.Statement.{statement}
+use Rattle.snapshot.proofs.loading.farther.Tie as tie
 
 returns : tie.Need-returns
 returns c = first-farther _ _ _ (c .if1 .taken)

@@ -1,9 +1,9 @@
--- `snapshot::header_in` meets its contract: what was read, tested and cut out is the law `header-read` (`proofs/Reading.antt`).
+-- `snapshot::loading::header_in` meets its contract: what was read, tested and cut out is the law `header-read` (`proofs/Reading.antt`).
 -- Assumes nothing.
 use Rattle.snapshot.proofs.Reading.{header-read}
 use borrow.Author.Needs.{needs}
-use Rattle.snapshot.proofs.header_in.Statement.{statement}
-use Rattle.snapshot.proofs.header_in.Tie as tie
+use Rattle.snapshot.proofs.loading.header_in.Statement.{statement}
+use Rattle.snapshot.proofs.loading.header_in.Tie as tie
 
 slice-aggregate-read-frame : tie.Need-slice-aggregate-read-frame
 slice-aggregate-read-frame c = search needs

@@ -1,9 +1,9 @@
--- `snapshot::key_line` meets its contract: what was read and tested is the law `key-read` (`proofs/Reading.antt`). Assumes nothing.
+-- `snapshot::loading::key_line` meets its contract: what was read and tested is the law `key-read` (`proofs/Reading.antt`). Assumes nothing.
 use lib.ListN.{drop}
 use Rattle.snapshot.proofs.Reading.{key-read}
 use borrow.Author.Needs.{needs}
-use Rattle.snapshot.proofs.key_line.Statement.{statement}
-use Rattle.snapshot.proofs.key_line.Tie as tie
+use Rattle.snapshot.proofs.loading.key_line.Statement.{statement}
+use Rattle.snapshot.proofs.loading.key_line.Tie as tie
 
 slice-aggregate-read-frame : tie.Need-slice-aggregate-read-frame
 slice-aggregate-read-frame c = search needs

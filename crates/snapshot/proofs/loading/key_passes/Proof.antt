@@ -1,9 +1,9 @@
--- `snapshot::key_passes` meets its contract: each return is a law of the test (`proofs/Answers.antt`). Assumes nothing.
+-- `snapshot::loading::key_passes` meets its contract: each return is a law of the test (`proofs/Answers.antt`). Assumes nothing.
 use borrow.Author.Tests.{not-true, not-false}
 use Rattle.snapshot.proofs.Answers.{bad-selector, too-near, by-cap}
 use borrow.Author.Needs.{needs}
-use Rattle.snapshot.proofs.key_passes.Statement.{statement}
-use Rattle.snapshot.proofs.key_passes.Tie as tie
+use Rattle.snapshot.proofs.loading.key_passes.Statement.{statement}
+use Rattle.snapshot.proofs.loading.key_passes.Tie as tie
 
 array-read-if1 : tie.Need-array-read-if1
 array-read-if1 c = search needs

@@ -1,11 +1,11 @@
--- `snapshot::load` meets its contract. The invariant is `Through` (`proofs/Loading.antt`), whose steps answer the returns and the next turn.
+-- `snapshot::loading::load` meets its contract. The invariant is `Through` (`proofs/Turns.antt`), whose steps answer the returns and the next turn.
 -- The measure is what is left of the count. Assumes nothing.
 use Prim.Native.Nat.{_-_}
 use borrow.Author.Needs.{needs}
 use borrow.Author.Tests.{not-true, not-false}
-use Rattle.snapshot.proofs.Loading.{Through, first-bad, first-good, line-bad, line-good, too-long, all-read, refused-at, accepted-as}
-use Rattle.snapshot.proofs.load.Statement.{statement}
-use Rattle.snapshot.proofs.load.Tie as tie
+use Rattle.snapshot.proofs.Turns.{Through, first-bad, first-good, line-bad, line-good, too-long, all-read, refused-at, accepted-as}
+use Rattle.snapshot.proofs.loading.load.Statement.{statement}
+use Rattle.snapshot.proofs.loading.load.Tie as tie
 
 abbrev Inv-loop : tie.InvT-loop
 Inv-loop index text node cap count next keys₀ last₀ i₀ keys last i = Through text node cap count keys last i

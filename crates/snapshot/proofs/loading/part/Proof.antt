@@ -1,4 +1,4 @@
--- `snapshot::part` meets its contract. The invariant: the bytes passed are those of the part, the rest are zeros; a turn stores the next
+-- `snapshot::loading::part` meets its contract. The invariant: the bytes passed are those of the part, the rest are zeros; a turn stores the next
 -- one, which is one step of a copy (`paste`). The measure is what is left of 32. Assumes nothing.
 use Prim.Native.Nat.{ℕ, _+_, _-_, _≤_, _<_}
 use native.Mathlib.Nat.{zero-add}
@@ -10,8 +10,8 @@ use denote.Ref.{now}
 use lib.ListN.{length, getD, set, take, drop, replicate, drop-of-length-le, length-drop}
 use lib.Seq.{paste, paste-suc, take-all, getD-take, getD-drop, length-take-le}
 use borrow.Author.Needs.{needs}
-use Rattle.snapshot.proofs.part.Statement.{statement}
-use Rattle.snapshot.proofs.part.Tie as tie
+use Rattle.snapshot.proofs.loading.part.Statement.{statement}
+use Rattle.snapshot.proofs.loading.part.Tie as tie
 
 -- a turn takes i bytes of the part to i + 1
 module _ (frame : List ℕ) (from : ℕ) (h : from + 32 ≤ length frame) where

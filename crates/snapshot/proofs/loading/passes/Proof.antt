@@ -1,8 +1,8 @@
--- `snapshot::passes` meets its contract: each return is a law of the test (`proofs/Answers.antt`). Assumes nothing.
+-- `snapshot::loading::passes` meets its contract: each return is a law of the test (`proofs/Answers.antt`). Assumes nothing.
 use borrow.Author.Tests.{not-true, not-false}
 use Rattle.snapshot.proofs.Answers.{unframed, other-kind, by-rules}
-use Rattle.snapshot.proofs.passes.Statement.{statement}
-use Rattle.snapshot.proofs.passes.Tie as tie
+use Rattle.snapshot.proofs.loading.passes.Statement.{statement}
+use Rattle.snapshot.proofs.loading.passes.Tie as tie
 
 returns : tie.Need-returns
 returns c =

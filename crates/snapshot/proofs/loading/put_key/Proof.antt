@@ -1,4 +1,4 @@
--- `snapshot::put_key` meets its contract. The invariant: the first j bytes of the key stand in the array from its place on (`paste`). The
+-- `snapshot::loading::put_key` meets its contract. The invariant: the first j bytes of the key stand in the array from its place on (`paste`). The
 -- measure is what is left of nine. Assumes nothing.
 use Prim.Native.Nat.{ℕ, _+_, _-_, _*_, _≤_}
 use native.Mathlib.Numerals.{add-one}
@@ -8,8 +8,8 @@ use mathlib.Core.Path.{_≡_, _∙_, ap, sym}
 use lib.ListN.{length, getD, set, length-set}
 use lib.Seq.{paste, paste-zero, paste-suc}
 use borrow.Author.Needs.{needs}
-use Rattle.snapshot.proofs.put_key.Statement.{statement}
-use Rattle.snapshot.proofs.put_key.Tie as tie
+use Rattle.snapshot.proofs.loading.put_key.Statement.{statement}
+use Rattle.snapshot.proofs.loading.put_key.Tie as tie
 
 abbrev Inv-loop : tie.InvT-loop
 Inv-loop keys₀ i key at j₀ keys j =

@@ -1,4 +1,4 @@
--- `snapshot::read_frame` meets its contract: the two tests and the decoder's three answers are laws of the reading of a line
+-- `snapshot::loading::read_frame` meets its contract: the two tests and the decoder's three answers are laws of the reading of a line
 -- (`proofs/Reading.antt`). Assumes nothing.
 use Prim.Native.Nat.{_+_, _-_, _*_}
 use native.Mathlib.Omega.{arith}
@@ -7,8 +7,8 @@ use lib.ListN.{length, drop, length-drop}
 use lib.Seq.{getD-drop}
 use Rattle.snapshot.proofs.Reading.{short-line, unended-line, frame-read, frame-not, frame-room}
 use borrow.Author.Needs.{needs}
-use Rattle.snapshot.proofs.read_frame.Statement.{statement}
-use Rattle.snapshot.proofs.read_frame.Tie as tie
+use Rattle.snapshot.proofs.loading.read_frame.Statement.{statement}
+use Rattle.snapshot.proofs.loading.read_frame.Tie as tie
 
 mul-digits : tie.Need-mul-digits
 mul-digits c = search needs

@@ -1,10 +1,10 @@
--- `snapshot::reload` meets its contract: a bad index is handed back, and a good one is left to `load`. Assumes nothing.
+-- `snapshot::loading::reload` meets its contract: a bad index is handed back, and a good one is left to `load`. Assumes nothing.
 use mathlib.Core.Path.{sym, _∙_}
 use borrow.Author.Tests.{not-true, not-false}
-use Rattle.snapshot.proofs.Loading.{reload-bad, reload-good}
+use Rattle.snapshot.proofs.Turns.{reload-bad, reload-good}
 use borrow.Author.Needs.{needs}
-use Rattle.snapshot.proofs.reload.Statement.{statement}
-use Rattle.snapshot.proofs.reload.Tie as tie
+use Rattle.snapshot.proofs.loading.reload.Statement.{statement}
+use Rattle.snapshot.proofs.loading.reload.Tie as tie
 
 is-good-requires : tie.Need-is-good-requires
 is-good-requires c κs = search needs

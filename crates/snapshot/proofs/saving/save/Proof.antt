@@ -1,4 +1,4 @@
--- `snapshot::save` meets its contract. The invariant is `Saving` (`proofs/Writing.antt`): the buffer starts with the first line and the
+-- `snapshot::saving::save` meets its contract. The invariant is `Saving` (`proofs/Writing.antt`): the buffer starts with the first line and the
 -- lines of the first i keys. The measure is what is left of the count. Assumes nothing.
 use Prim.Native.Nat.{_+_, _-_, _*_, _≤_}
 use native.Mathlib.Omega.{arith}
@@ -11,8 +11,8 @@ use Rattle.key_index.specs.View.{view}
 use Rattle.key_index.specs.Good.{good}
 use Rattle.snapshot.specs.Text.{snapshotOf}
 use Rattle.snapshot.proofs.Writing.{Saving, few-keys, saved-length, saving-start, saving-next, saving-end, save-bad, save-short, save-written}
-use Rattle.snapshot.proofs.save.Statement.{statement}
-use Rattle.snapshot.proofs.save.Tie as tie
+use Rattle.snapshot.proofs.saving.save.Statement.{statement}
+use Rattle.snapshot.proofs.saving.save.Tie as tie
 
 abbrev Inv-loop : tie.InvT-loop
 Inv-loop out₀ index count size i₀ out i =

@@ -1,8 +1,8 @@
--- `snapshot::write_header` meets its contract: the pieces of the line make it up (`header-placed` of `proofs/Writing.antt`). Assumes nothing.
+-- `snapshot::saving::write_header` meets its contract: the pieces of the line make it up (`header-placed` of `proofs/Writing.antt`). Assumes nothing.
 use Rattle.snapshot.proofs.Writing.{header-placed}
 use borrow.Author.Needs.{needs}
-use Rattle.snapshot.proofs.write_header.Statement.{statement}
-use Rattle.snapshot.proofs.write_header.Tie as tie
+use Rattle.snapshot.proofs.saving.write_header.Statement.{statement}
+use Rattle.snapshot.proofs.saving.write_header.Tie as tie
 
 slice-aggregate-encode : tie.Need-slice-aggregate-encode
 slice-aggregate-encode c = search needs

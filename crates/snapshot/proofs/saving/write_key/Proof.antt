@@ -1,8 +1,8 @@
--- `snapshot::write_key` meets its contract: the pieces of the line make it up (`key-placed` of `proofs/Writing.antt`). Assumes nothing.
+-- `snapshot::saving::write_key` meets its contract: the pieces of the line make it up (`key-placed` of `proofs/Writing.antt`). Assumes nothing.
 use Rattle.snapshot.proofs.Writing.{key-placed}
 use borrow.Author.Needs.{needs}
-use Rattle.snapshot.proofs.write_key.Statement.{statement}
-use Rattle.snapshot.proofs.write_key.Tie as tie
+use Rattle.snapshot.proofs.saving.write_key.Statement.{statement}
+use Rattle.snapshot.proofs.saving.write_key.Tie as tie
 
 slice-aggregate-encode : tie.Need-slice-aggregate-encode
 slice-aggregate-encode c = search needs

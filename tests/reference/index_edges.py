@@ -1,6 +1,6 @@
 """What the program `index_edges` prints: the calls on indexes that no call makes."""
 from history import Refused, digits, make_key
-from index import Index
+from index import Index, load
 
 ONES = 2**256 - 1
 FIRST, SECOND = make_key(0, 1), make_key(0, 2)
@@ -12,6 +12,11 @@ def broken(index, count):
         return True
     away = [index.away(k) for k in index.keys]
     return any(d > index.cap for d in away) or any(a >= b for a, b in zip(away, away[1:]))
+
+
+def barred(text):
+    """A saved text on one line."""
+    return text.decode().replace('\n', '|')
 
 
 def lines(name, cap, count, keys):
@@ -36,6 +41,10 @@ def lines(name, cap, count, keys):
     yield '  store body 0: ' + tell(lambda: index.store(bytes(9), b'\xc0'), 'stored')
     index = made()
     yield '  remove body 1: ' + tell(lambda: index.remove(FIRST), 'removed')
+    index = made()
+    yield '  save: all else as it was, ' + tell(lambda: barred(index.save()))
+    again = tell(lambda: 'loaded ' + barred(load(index.save()).save()))
+    yield '  reload: ' + again.replace('refused', 'the very index, refused')
 
 
 def output():

@@ -6,6 +6,7 @@ use key_index::KeyIndex;
 use key_store::Stored;
 use libc::STDOUT_FILENO;
 use refusal::Checked;
+use refusal::Wrote;
 
 fn main() {
     let ones = [255u8; 32];
@@ -74,7 +75,9 @@ fn show(name: &[u8], index: KeyIndex) {
     let asked = radius_line(index, &mut out, at);
     let held = holds_line(index, &mut out, asked);
     let stored = store_line(index, &mut out, held);
-    let last = remove_line(index, &mut out, stored);
+    let removed = remove_line(index, &mut out, stored);
+    let saved = save_line(index, &mut out, removed);
+    let last = reload_line(index, &mut out, saved);
     io::write_all(STDOUT_FILENO, words::front(&out, last));
 }
 
@@ -133,6 +136,78 @@ fn remove_line(index: KeyIndex, out: &mut [u8], from: usize) -> usize {
     match checked {
         Checked::Accepted => answer::text(out, said, b"removed\n"),
         Checked::Refused(why) => number_line(refusal::number(why), out, said),
+    }
+}
+
+fn save_line(index: KeyIndex, out: &mut [u8], from: usize) -> usize {
+    let at = answer::text(out, from, b"  save: ");
+    let mut buffer = [7u8; 5200];
+    let wrote = snapshot::save(index, &mut buffer);
+    match wrote {
+        Wrote::Bytes(n) => {
+            let said = rest_word(&buffer, n, out, at);
+            let last = answer::bars(out, said, words::front(&buffer, n));
+            answer::end(out, last)
+        }
+        Wrote::Refused(why) => {
+            let said = rest_word(&buffer, 0, out, at);
+            number_line(refusal::number(why), out, said)
+        }
+    }
+}
+
+// Whether the buffer behind the first n bytes is as it was.
+fn rest_word(buffer: &[u8], n: usize, out: &mut [u8], at: usize) -> usize {
+    let before = [7u8; 5200];
+    if check::same(back(buffer, n), back(&before, n)) {
+        answer::text(out, at, b"all else as it was, ")
+    } else {
+        answer::text(out, at, b"another buffer, ")
+    }
+}
+
+// What comes after the first n elements.
+fn back(s: &[u8], n: usize) -> &[u8] {
+    if n <= s.len() { &s[n..] } else { &s[..0] }
+}
+
+// Reloads a text that some index has, and saves what it gives.
+fn reload_line(index: KeyIndex, out: &mut [u8], from: usize) -> usize {
+    let at = answer::text(out, from, b"  reload: ");
+    let mut text = [0u8; 5200];
+    let n = some_text(index, &mut text);
+    let done = snapshot::reload(index, words::front(&text, n));
+    let next = done.index;
+    let checked = done.checked;
+    match checked {
+        Checked::Accepted => {
+            let said = answer::text(out, at, b"loaded ");
+            let again = saved(next, &mut text);
+            let last = answer::bars(out, said, words::front(&text, again));
+            answer::end(out, last)
+        }
+        Checked::Refused(why) => {
+            let said = kept_word(index, next, out, at);
+            number_line(refusal::number(why), out, said)
+        }
+    }
+}
+
+// The text of the index, or of a fresh one where it has none: how many bytes it has.
+fn some_text(index: KeyIndex, text: &mut [u8]) -> usize {
+    let n = saved(index, text);
+    if n != 0 {
+        return n;
+    }
+    saved(key_index::fresh([0u8; 32], [255u8; 32]), text)
+}
+
+// How many bytes saving writes.
+fn saved(index: KeyIndex, text: &mut [u8]) -> usize {
+    let wrote = snapshot::save(index, text);
+    match wrote {
+        Wrote::Bytes(n) => n,
+        Wrote::Refused(_) => 0,
     }
 }
 

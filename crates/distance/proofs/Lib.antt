@@ -1,2 +1,3 @@
 pub mod Exclusive
 pub mod Logarithm
+pub mod Tested

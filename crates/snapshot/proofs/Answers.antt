@@ -8,6 +8,7 @@ use lib.Dec.{eqb, leb, leb·zero}
 use lib.ListN.{getD}
 use borrow.Author.Tests.{le-leb, lt-leb, leb-true, leb-false, eq-eqb, ne-eqb}
 use Rattle.octets.specs.Bytes.{be}
+use Rattle.distance.proofs.Tested.{most-is}
 use Rattle.content_key.specs.Key.{selectorOf}
 use Rattle.snapshot.specs.Parts.{lowest, keyPasses}
 
@@ -41,10 +42,10 @@ module _ (key far : List ℕ) (first : Bool) (last cap : List ℕ) where
       ∙ ap (λ (x : Bool). x && leb (be far) (be cap)) (and-false (leb (selectorOf key) 1)))
 
   -- left to the cap
-  pub by-cap : (t u : Bool) → getD key 0 0 ≤ 1 → t ≡ leb (lowest first last) (be far) → t ≡ true → u ≡ leb (be far) (be cap)
-      → u ≡ keyPasses key far first last cap
-  by-cap t u h q e w =
-      w
+  pub by-cap : (t u : Bool) → getD key 0 0 ≤ 1 → t ≡ leb (lowest first last) (be far) → t ≡ true
+      → (u ≡ true → be far ≤ be cap) → (u ≡ false → be cap < be far) → u ≡ keyPasses key far first last cap
+  by-cap t u h q e inside outside =
+      most-is (be far) (be cap) u inside outside
       ∙ sym (ap₂ (λ (x y : Bool). x && y && leb (be far) (be cap)) (le-leb (selectorOf key) 1 h) (sym q ∙ e))
 
 module _ (framed : Bool) (kind wanted : ℕ) (keeps : Bool) where

@@ -214,7 +214,7 @@ module _ (node cap : List ℕ) (first : Bool) (last text : List ℕ) (framed : B
           ∙ ap (λ (b : Bool). b && w) (sym (and-assoc x y z))
       go false q = refl
 
-  pub key-read : ReadsKey node cap (lowest first last) text (record { good = good; key = bytesAt 9 1 frame; far = far })
+  pub key-read : ReadsKey node cap first last text (record { good = good; key = bytesAt 9 1 frame; far = far })
   key-read =
       record {
         tested = key-tested;

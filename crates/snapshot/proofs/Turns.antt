@@ -10,14 +10,15 @@ use lib.Dec.{eqb, eqb·suc-zero}
 use lib.ListN.{length, take, drop, length-drop, drop-of-length-le}
 use lib.Seq.{append-snoc, take-at, drop-at, drop-drop, take-all, length-take-le, paste, length-paste}
 use Rattle.octets.specs.Bytes.{be}
+use borrow.Author.Tests.{eq-eqb, ne-eqb}
 use Rattle.refusal.specs.declared.Checked.the-variants.{Refused}
-use Rattle.refusal.specs.Says.{only}
+use Rattle.refusal.specs.Says.{only, atLine}
 use Rattle.refusal.specs.declared.Refusal.the-variants.{BadSnapshot}
 use Rattle.key_index.specs.declared.KeyIndex.{KeyIndex}
 use Rattle.key_index.specs.View.{View, view, chunks, freshOf, withKeys}
 use Rattle.key_index.specs.Good.{awayFrom, good}
 use Rattle.key_index.proofs.Chunks.{chunks-more, chunks-only}
-use Rattle.snapshot.specs.Load.{Loading, badLine, loaded, afterFrame, keyIn, before, ending, keysOf, nodeIn, capIn, countIn, loadOf}
+use Rattle.snapshot.specs.Load.{Loading, badLine, loaded, afterFrame, keyIn, isKeyLine, before, ending, keysOf, nodeIn, capIn, countIn, loadOf}
 use Rattle.snapshot.specs.Parts.{lowest, ReadsHeader, ReadsKey}
 use Rattle.snapshot.specs.Calls.{now, back, reloadedBy, reloadFor, meaningOf}
 use Rattle.snapshot.specs.declared.ReloadAnswer.{ReloadAnswer}
@@ -127,7 +128,19 @@ module _ (text node cap : List ℕ) (count : ℕ) (keys last : List ℕ) (i : �
       go (c ∷ rest) n = refl
 
   -- a line is read
-  module _ (h : i < count) (line : KeyLine) (r : ReadsKey node cap (lowest (eqb i 0) last) (drop (133 + 21 * i) text) line) where
+  module _ (h : i < count) (line : KeyLine) (first : Bool) (r : ReadsKey node cap first last (drop (133 + 21 * i) text) line)
+      (yes-first : first ≡ true → i ≡ 0) (no-first : first ≡ false → 0 < i) where
+    -- it was read as the first one where it is
+    as-first : first ≡ eqb i 0
+    as-first = go first refl
+      where
+        go : (b : Bool) → first ≡ b → first ≡ eqb i 0
+        go true e = e ∙ sym (eq-eqb i 0 (yes-first e))
+        go false e = e ∙ sym (ne-eqb i 0 (λ z. omega (arith, no-first e)))
+
+    tested : line .good ≡ isKeyLine node (be cap) (lowest (eqb i 0) last) (drop (133 + 21 * i) text)
+    tested = r .tested ∙ ap (λ (b : Bool). isKeyLine node (be cap) (lowest b last) (drop (133 + 21 * i) text)) as-first
+
     -- what its test leaves
     split : restOf text node cap count last i
         ≡ cond (line .good)
@@ -140,7 +153,7 @@ module _ (text node cap : List ℕ) (count : ℕ) (keys last : List ℕ) (i : �
         let more : count - i ≡ suc (count - suc i) = omega arith in
         ap (λ (n : ℕ). keysOf node cap (i + 2) (lowest (eqb i 0) last) n rest) more
         ∙ ap (λ (b : Bool). cond b (before (keyIn rest) (keysOf node cap (suc (i + 2)) (suc (awayFrom node (keyIn rest))) (count - suc i) (afterFrame 10 rest))) (badLine (i + 2)))
-        (sym (r .tested))
+        (sym tested)
 
     -- it is bad
     pub line-bad : line .good ≡ false → loadOf 240 text ≡ badLine (i + 2)
@@ -156,7 +169,7 @@ module _ (text node cap : List ℕ) (count : ℕ) (keys last : List ℕ) (i : �
         → Through text node cap count next (line .far) (i + 1)
     line-good e next p =
         let rest = drop (133 + 21 * i) text in
-        let facts = key-facts node (be cap) (lowest (eqb i 0) last) rest (sym (r .tested) ∙ e) in
+        let facts = key-facts node (be cap) (lowest (eqb i 0) last) rest (sym tested ∙ e) in
         let inside = framed 10 rest (facts .frame) .inside in
         let n : length (line .key) ≡ 9 = ap length (r .key-is e) ∙ key-nine rest (facts .frame) .size in
         let few = t .few in
@@ -188,11 +201,12 @@ module _ (text node cap : List ℕ) (count : ℕ) (keys last : List ℕ) (i : �
               ∙ ap₂ (λ (a : ℕ) (b : List ℕ). keysOf node cap (i + 1 + 2) (lowest (eqb (i + 1) 0) (line .far)) a b) left after);
         }
 
--- an answer that refuses a line
-pub refused-at : (index : KeyIndex) (text : List ℕ) (line : ℕ) (answer : ReloadAnswer)
-    → answer ≡ record { checked = Refused (BadSnapshot line); index = index } → loadOf 240 text ≡ badLine line
+-- an answer that refuses a line, with an index handed back
+pub refused-at : (index given : KeyIndex) (text : List ℕ) (said line : ℕ) (answer : ReloadAnswer)
+    → answer ≡ record { checked = Refused (BadSnapshot said); index = given } → given ≡ index → said ≡ line → loadOf 240 text ≡ badLine line
     → meaningOf answer ≡ reloadedBy index (loadOf 240 text)
-refused-at index text line answer e l = ap meaningOf e ∙ sym (ap (reloadedBy index) l)
+refused-at index given text said line answer e g s l =
+    ap meaningOf e ∙ ap₂ (λ (n : ℕ) (i : KeyIndex). back (atLine 14 n) i) s g ∙ sym (ap (reloadedBy index) l)
 
 -- an answer that accepts the text, with the keys and the count put into an index that was fresh
 pub accepted-as : (index : KeyIndex) (text node cap keys : List ℕ) (count : ℕ) (fresh : KeyIndex) → view fresh ≡ freshOf node cap

@@ -32,8 +32,8 @@ pub record ReadsHeader (text : List ℕ) (answer : Header) : Type 0 where
   pub cap-is : answer .good ≡ true → answer .cap ≡ capIn text
   pub count-is : answer .good ≡ true → answer .count ≡ countIn text
 
--- what a text gives as a key's line
-pub record ReadsKey (node cap : List ℕ) (from : ℕ) (text : List ℕ) (answer : KeyLine) : Type 0 where
-  pub tested : answer .good ≡ isKeyLine node (be cap) from text
+-- what a text gives as a key's line, the first one or one after a key at the distance `last`
+pub record ReadsKey (node cap : List ℕ) (first : Bool) (last text : List ℕ) (answer : KeyLine) : Type 0 where
+  pub tested : answer .good ≡ isKeyLine node (be cap) (lowest first last) text
   pub key-is : answer .good ≡ true → answer .key ≡ keyIn text
   pub far-is : answer .good ≡ true → answer .far ≡ xorOf node (keyId (keyIn text))

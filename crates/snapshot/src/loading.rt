@@ -120,7 +120,7 @@ fn key_line(
     last: [u8; 32],
 ) -> KeyLine
     requires { ⌜ at ≤ length (now text) ⌝ }
-    ensures { λ r. ⌜ ReadsKey node cap (lowest first last) (drop at (now (text .entry))) r ⌝ }
+    ensures { λ r. ⌜ ReadsKey node cap first last (drop at (now (text .entry))) r ⌝ }
 {
     let mut frame = [0u8; 10];
     let framed = read_frame(text, at, &mut frame);

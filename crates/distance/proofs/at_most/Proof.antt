@@ -73,7 +73,7 @@ array-read-if1-2 c = search needs
 returns : tie.Need-returns Inv-loop μ-loop
 returns c =
     let at = c .before .before in
-    sym (at .loop .inv .1 ∙ less _ _ (same (at .before)) (at .loop .i) (inside (c .before)) (bytes-a (at .before)) (c .if1 .taken))
+    sym (at .loop .inv .1 ∙ less _ _ (same (at .before)) (at .loop .i) (inside (c .before)) (bytes-a (at .before)) (search needs))
 
 array-read-if2 : tie.Need-array-read-if2 Inv-loop μ-loop
 array-read-if2 c = search needs
@@ -84,7 +84,7 @@ array-read-if2-2 c = search needs
 returns-2 : tie.Need-returns-2 Inv-loop μ-loop
 returns-2 c =
     let at = c .before .before .before in
-    sym (at .loop .inv .1 ∙ more _ _ (same (at .before)) (at .loop .i) (inside (c .before .before)) (bytes-b (at .before)) (c .if2 .taken))
+    sym (at .loop .inv .1 ∙ more _ _ (same (at .before)) (at .loop .i) (inside (c .before .before)) (bytes-b (at .before)) (search needs))
 
 add-i : tie.Need-add-i Inv-loop μ-loop
 add-i c = search needs
@@ -95,7 +95,7 @@ loop-less c = search needs
 loop-again : tie.Need-loop-again Inv-loop μ-loop
 loop-again c =
     let at = c .before .before .before in
-    (search needs, at .loop .inv .1 ∙ later _ _ (same (at .before)) (at .loop .i) (inside (c .before .before)) (c .before .if1 .left) (c .if2 .left))
+    (search needs, at .loop .inv .1 ∙ later _ _ (same (at .before)) (at .loop .i) (inside (c .before .before)) (search needs) (search needs))
 
 returns-3 : tie.Need-returns-3 Inv-loop μ-loop
 returns-3 c =

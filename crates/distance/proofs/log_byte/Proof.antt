@@ -26,7 +26,7 @@ loop-less : tie.Need-loop-less Inv-loop μ-loop
 loop-less c = search needs
 
 loop-again : tie.Need-loop-again Inv-loop μ-loop
-loop-again c = omega (arith, log-half 8 (c .before .loop .rest) (c .loop-test .taken) (c .before .loop .inv .0))
+loop-again c = omega (arith, log-half 8 (c .before .loop .rest) (search needs) (c .before .loop .inv .0))
 
 returns : tie.Need-returns Inv-loop μ-loop
 returns c =

@@ -17,9 +17,9 @@ use Rattle.distance.proofs.xor.Tie as tie
 
 -- a turn's store takes i bytes of the exclusive or to i + 1
 store : (a b d e : List ℕ) (i : ℕ) → length a ≡ length b → i < length a → i < length e → d ≡ paste e 0 (xorOf a b) i
-    → set d i (bitXor (getD a i 0) (getD b i 0)) ≡ paste e 0 (xorOf a b) (i + 1)
-store a b d e i l h k q =
-    ap₂ (λ (x : List ℕ) (v : ℕ). set x i v) q (sym (xorOf-at a b l i))
+    → (v : ℕ) → v ≡ bitXor (getD a i 0) (getD b i 0) → set d i v ≡ paste e 0 (xorOf a b) (i + 1)
+store a b d e i l h k q v is =
+    ap₂ (λ (x : List ℕ) (v : ℕ). set x i v) q (is ∙ sym (xorOf-at a b l i))
     ∙ ap (λ (n : ℕ). set (paste e 0 (xorOf a b) i) n (getD (xorOf a b) i 0)) (sym (zero-add i))
     ∙ paste-suc e 0 (xorOf a b) i 0 (omega arith) (omega (arith, xorOf-length a b l))
     ∙ ap (λ (n : ℕ). paste e 0 (xorOf a b) n) (sym (add-one i))
@@ -62,7 +62,7 @@ loop-again : tie.Need-loop-again Inv-loop μ-loop
 loop-again c =
     let at = c .before in
     let i : at .loop .i < length (at .before .args .t1) = omega (arith, length-a (at .before)) in
-    (search needs, store _ _ (at .loop .d) (replicate 32 0) (at .loop .i) (same (at .before)) i (search needs) (at .loop .inv .1))
+    (search needs, store _ _ (at .loop .d) (replicate 32 0) (at .loop .i) (same (at .before)) i (search needs) (at .loop .inv .1) _ (search needs))
 
 returns : tie.Need-returns Inv-loop μ-loop
 returns c =

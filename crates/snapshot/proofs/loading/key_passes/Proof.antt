@@ -1,5 +1,7 @@
 -- `snapshot::loading::key_passes` meets its contract: each return is a law of the test (`proofs/Answers.antt`). Assumes nothing.
-use borrow.Author.Tests.{not-true, not-false}
+use native.Mathlib.Omega.{arith}
+use mathlib.Core.Path.{sym, _∙_}
+use borrow.Author.Tests.{not-true, not-false, leb-true, leb-false}
 use Rattle.snapshot.proofs.Answers.{bad-selector, too-near, by-cap}
 use borrow.Author.Needs.{needs}
 use Rattle.snapshot.proofs.loading.key_passes.Statement.{statement}
@@ -27,7 +29,8 @@ at-most-requires c κs = search needs
 returns-3 : tie.Need-returns-3
 returns-3 c =
     let a = c .before .before .before .before .args in
-    by-cap (a .t1) (a .far) (a .first) (a .last) (a .cap) _ _ (c .before .before .before .if1 .left) (c .before .before .farther .ensures) (not-false _ (c .before .if2 .left)) (c .at-most .ensures)
+    by-cap (a .t1) (a .far) (a .first) (a .last) (a .cap) _ _ (c .before .before .before .if1 .left) (c .before .before .farther .ensures) (not-false _ (c .before .if2 .left))
+    (λ e. let t = sym (c .at-most .ensures) ∙ e in omega (arith, leb-true)) (λ e. let t = sym (c .at-most .ensures) ∙ e in omega (arith, leb-false))
 
 pub key-passes-spec : {M : Type 1} → statement M
 key-passes-spec =

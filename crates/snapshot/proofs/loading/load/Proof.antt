@@ -1,8 +1,9 @@
 -- `snapshot::loading::load` meets its contract. The invariant is `Through` (`proofs/Turns.antt`), whose steps answer the returns and the next turn.
 -- The measure is what is left of the count. Assumes nothing.
 use Prim.Native.Nat.{_-_}
+use native.Mathlib.Omega.{arith}
 use borrow.Author.Needs.{needs}
-use borrow.Author.Tests.{not-true, not-false}
+use borrow.Author.Tests.{not-true, not-false, eqb-true, eqb-false}
 use Rattle.snapshot.proofs.Turns.{Through, first-bad, first-good, line-bad, line-good, too-long, all-read, refused-at, accepted-as}
 use Rattle.snapshot.proofs.loading.load.Statement.{statement}
 use Rattle.snapshot.proofs.loading.load.Tie as tie
@@ -22,7 +23,7 @@ bad-line-requires c κs = search needs
 returns : tie.Need-returns Inv-loop μ-loop
 returns c =
     let a = c .before .before .before .before .before .args in
-    refused-at (a .index) (a .text .now) 1 _ (c .bad-line .ensures)
+    refused-at (a .index) _ (a .text .now) _ 1 _ (c .bad-line .ensures) (cc) (omega arith)
     (first-bad (a .text .now) _ (c .before .before .before .header-in .ensures) (not-true _ (c .before .if1 .taken)))
 
 fresh-requires : tie.Need-fresh-requires Inv-loop μ-loop
@@ -52,8 +53,9 @@ returns-2 : tie.Need-returns-2 Inv-loop μ-loop
 returns-2 c =
     let a = c .before .before .before .before .before .before .before .before .before .before .before .before .before .args in
     let at = c .before .before .before .before .before in
-    refused-at (a .index) (a .text .now) _ _ (c .bad-line2 .ensures)
-    (line-bad _ _ _ _ _ _ _ (at .loop .inv) (c .before .before .before .before .loop-test .taken) _ (c .before .before .before .key-line .ensures) (not-true _ (c .before .if2 .taken)))
+    refused-at (a .index) _ (a .text .now) _ _ _ (c .bad-line2 .ensures) (cc) (omega arith)
+    (line-bad _ _ _ _ _ _ _ (at .loop .inv) (c .before .before .before .before .loop-test .taken) _ _ (c .before .before .before .key-line .ensures)
+    (λ e. omega (arith, eqb-true)) (λ e. omega (arith, eqb-false)) (not-true _ (c .before .if2 .taken)))
 
 slice-aggregate-put-key : tie.Need-slice-aggregate-put-key Inv-loop μ-loop
 slice-aggregate-put-key c = search needs
@@ -70,7 +72,8 @@ loop-less c = search needs
 loop-again : tie.Need-loop-again Inv-loop μ-loop
 loop-again c =
     let at = c .before .before .before .before .before .before .before .before .before in
-    line-good _ _ _ _ _ _ _ (at .loop .inv) (c .before .before .before .before .before .before .before .before .loop-test .taken) _ (c .before .before .before .before .before .before .before .key-line .ensures) (not-false _ (c .before .before .before .before .before .if2 .left)) _
+    line-good _ _ _ _ _ _ _ (at .loop .inv) (c .before .before .before .before .before .before .before .before .loop-test .taken) _ _ (c .before .before .before .before .before .before .before .key-line .ensures)
+    (λ e. omega (arith, eqb-true)) (λ e. omega (arith, eqb-false)) (not-false _ (c .before .before .before .before .before .if2 .left)) _
     (c .before .put-key .ensures)
 
 mul-if3 : tie.Need-mul-if3 Inv-loop μ-loop
@@ -89,7 +92,7 @@ returns-3 : tie.Need-returns-3 Inv-loop μ-loop
 returns-3 c =
     let a = c .before .before .before .before .before .before .before .before .before .before .before .args in
     let at = c .before .before .before in
-    refused-at (a .index) (a .text .now) _ _ (c .bad-line3 .ensures)
+    refused-at (a .index) _ (a .text .now) _ _ _ (c .bad-line3 .ensures) (cc) (omega arith)
     (too-long _ _ _ _ _ _ _ (at .loop .inv) (c .before .before .loop-test .left) (c .before .if3 .taken))
 
 returns-4 : tie.Need-returns-4 Inv-loop μ-loop

@@ -19,8 +19,9 @@ use Rattle.key_index.specs.View.{withKeys}
 use Rattle.key_index.specs.Good.{awayFrom, lastOf}
 use Rattle.key_index.specs.Calls.{isHeld}
 use Rattle.key_store.specs.Store.{Storing}
-use Rattle.key_store.proofs.Cases as case
-use Rattle.key_store.proofs.Cases.{Asked, Fresh, Stores, store-cases}
+use Rattle.key_store.specs.Cases as case
+use Rattle.key_store.specs.Cases.{Asked, Fresh, Stores}
+use Rattle.key_store.proofs.Cases.{store-cases}
 use Rattle.key_remove.specs.Remove.{Removing, removeOf}
 use Rattle.key_remove.proofs.Cases.{remove-no-key, remove-absent, remove-held}
 use Rattle.key_remove.proofs.Without.{without-split}

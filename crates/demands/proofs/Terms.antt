@@ -21,13 +21,15 @@ use Rattle.runs.specs.Views.{View, Good, radius, Gives}
 use Rattle.runs.specs.Done.{Admitted}
 use Rattle.runs.proofs.Views.{radius-room, radius-full}
 use Rattle.key_index.specs.Good.{awayFrom, good, lastOf, radiusOf}
-use Rattle.key_index.proofs.Each.{Each, each-member}
-use Rattle.key_index.proofs.Chunks.{NineBytes}
+use Rattle.key_index.specs.Keys.{Each, NineBytes}
+use Rattle.key_index.proofs.Each.{each-member}
 use Rattle.key_index.proofs.Rules.{good-facts, facts-good}
-use Rattle.key_store.proofs.Facts.{OfBytes, sorted-near, near-sorted, last-apart, reach-room, reach-full}
+use Rattle.key_store.specs.Cases.{OfBytes}
+use Rattle.key_store.proofs.Facts.{sorted-near, near-sorted, last-apart, reach-room, reach-full}
 use Rattle.snapshot.specs.Text.{snapshotOf}
 use Rattle.snapshot.specs.Load.{Loading, badLine, loaded, loadOf}
-use Rattle.snapshot.proofs.RoundTrip.{Shaped, loaded-written, accepted-iff}
+use Rattle.snapshot.specs.Shape.{Shaped}
+use Rattle.snapshot.proofs.RoundTrip.{loaded-written, accepted-iff}
 use Rattle.demands.specs.Box.{Owner, ValidKey, Raw, grouped, spread, viewIn}
 use Rattle.demands.specs.Setting.{box}
 use Rattle.demands.proofs.Laws.{key-is, laws}

@@ -12,7 +12,7 @@ use Rattle.content_key.specs.Key.{selectorOf, keyOf}
 use Rattle.rlp.specs.Content.{acceptable}
 use Rattle.runs.specs.Setting.{ViewOf}
 use Rattle.key_index.specs.View.{View}
-use Rattle.key_index.proofs.Chunks.{NineBytes}
+use Rattle.key_index.specs.Keys.{NineBytes}
 use Rattle.snapshot.specs.Load.{Loading, badLine, loaded, loadOf}
 
 -- node id and cap ("ceiling" in document 01)

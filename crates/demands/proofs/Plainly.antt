@@ -2,28 +2,22 @@
 use Prim.Native.Nat.{ℕ, _≤_}
 use mathlib.Core.Path.{sym, subst}
 use mathlib.Core.Logic.{_↔_, ⊎-elim}
-use mathlib.Core.List.{List, [], _∷_, Memᴰ·of-map, Memᴰ·cast}
+use mathlib.Core.List.{List, Memᴰ·of-map, Memᴰ·cast}
 use Rattle.nearest.specs.Sorted.{_among_, distances}
-use Rattle.runs.specs.Views.{View, Call, store, remove, reload, Answer, Good}
+use Rattle.runs.specs.Views.{View, Call, Answer, Good}
 use Rattle.runs.specs.Runs.{Part, Accepted, Presented, Candidate}
 use Rattle.runs.specs.Demand3.{Demand3}
 use Rattle.runs.proofs.Runs.{good-run, good-part}
+use Rattle.runs.proofs.Demand3.{presented-valid}
 use Rattle.runs.proofs.Equal.{same-keys-equal, same-set-iff, held-iff}
 use Rattle.key_index.specs.Good.{awayFrom}
 use Rattle.demands.specs.Box.{Owner, ValidOwner, ValidKey}
 use Rattle.demands.specs.Setting.{box}
 use Rattle.demands.specs.Step.{step}
 use Rattle.demands.specs.Plainly.{Plainly}
-use Rattle.demands.proofs.Laws.{same-distance, key-is, laws}
+use Rattle.demands.proofs.Laws.{same-distance, laws}
 use Rattle.demands.proofs.Terms.{equal, good-passes, radius-is, gives-iff}
 use Rattle.demands.proofs.Steps.{index}
-
--- what is presented is a key
-presented-valid : (o : Owner) (cs : List (Call box)) (k : List ℕ) → Presented box o cs k → ValidKey k
-presented-valid o [] k f = absurd f
-presented-valid o (store raw content ∷ cs) k f = ⊎-elim (λ p. key-is raw k (p .0 .presented) .1) (presented-valid o cs k) f
-presented-valid o (remove raw ∷ cs) k f = ⊎-elim absurd (presented-valid o cs k) f
-presented-valid o (reload text ∷ cs) k f = ⊎-elim absurd (presented-valid o cs k) f
 
 module _ (o : Owner) (valid : ValidOwner o) (calls : List (Call box)) where
   module _ {v w : View box} {cs : List (Call box)} {told : List (Answer box)} (part : Part box step o calls v cs w told) where
@@ -34,7 +28,7 @@ module _ (o : Owner) (valid : ValidOwner o) (calls : List (Call box)) where
     good-end = subst (λ (x : View box). Good box x) (sym (part .ends)) (good-run laws index v cs good-start)
 
     candidate-valid : (k : List ℕ) → Candidate box v cs k → ValidKey k
-    candidate-valid k c = ⊎-elim (good-start .validKeys k) (presented-valid (v .owner) cs k) c
+    candidate-valid k c = ⊎-elim (good-start .validKeys k) (presented-valid laws (v .owner) cs k) c
 
     -- a candidate at the distance of a key held at the end is held
     held-by-distance : (k : List ℕ) → Candidate box v cs k → awayFrom (v .owner .node) k among distances (awayFrom (v .owner .node)) (w .keys)

@@ -38,7 +38,7 @@ module _ {S : Setting} (L : Laws S) where
   }
 
   -- what is offered is a key
-  presented-valid : (o : Owner) (cs : List (Call S)) (k : Key) → Presented S o cs k → ValidKey o k
+  pub presented-valid : (o : Owner) (cs : List (Call S)) (k : Key) → Presented S o cs k → ValidKey o k
   presented-valid o [] k f = absurd f
   presented-valid o (store raw content ∷ cs) k f = ⊎-elim (λ u. L .keyIn-valid o raw k (u .0 .presented)) (presented-valid o cs k) f
   presented-valid o (remove raw ∷ cs) k f = ⊎-elim absurd (presented-valid o cs k) f

@@ -5,3 +5,4 @@ pub mod Parts
 pub mod Layouts
 pub mod Rules
 pub mod Messages
+pub mod Exact

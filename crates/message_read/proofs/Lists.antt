@@ -11,7 +11,8 @@ use lib.ListN.{length, getD, take, drop, length-drop, length-reverse, drop-of-le
 use lib.Seq.{drop-cons, take-all, getD-at}
 use borrow.Author.Tests.{ltb-true, ltb-false}
 use Rattle.octets.specs.Bytes.{le}
-use Rattle.octets.proofs.Parts.{bytes-at-part}
+use Rattle.octets.specs.Parts.{bytesAt}
+use Rattle.octets.proofs.Parts.{bytes-at-part, bytes-at-rest}
 use Rattle.message.specs.Records.{offsetOf}
 use Rattle.message.specs.Rules.{present}
 
@@ -40,13 +41,9 @@ present-drop s n = go (ltb n (length s)) refl
     go true e = ap present (drop-cons s n 0 (ltb-true n (length s) e)) ∙ sym e
     go false e = ap present (drop-of-length-le s (ltb-false n (length s) e)) ∙ sym e
 
--- an element of bytes in the other order
-pub reverse-at : (xs : List ℕ) (i j : ℕ) → i + suc j ≡ length xs → getD (reverse xs) i 0 ≡ getD xs j 0
-reverse-at [] i j h = absurd (omega arith)
-reverse-at (x ∷ xs) i zero h =
-    ap (λ (l : List ℕ). getD l i 0) (reverse-cons x xs)
-    ∙ getD-at (reverse xs) x [] 0 i (omega (arith, length-reverse xs))
-reverse-at (x ∷ xs) i (suc j) h =
-    ap (λ (l : List ℕ). getD l i 0) (reverse-cons x xs)
-    ∙ List·getD-append (reverse xs) (x ∷ []) 0 i (omega (arith, length-reverse xs))
-    ∙ reverse-at xs i j (omega arith)
+-- bytes from a place on are the part there, or the rest, where the place is the right one
+pub bytes-part : (n from j : ℕ) (s : List ℕ) {r : List ℕ} → r ≡ bytesAt n j s → j ≡ from → from + n ≤ length s → r ≡ take n (drop from s)
+bytes-part n from j s is same h = is ∙ ap (λ (k : ℕ). bytesAt n k s) same ∙ bytes-at-part n from s h
+
+pub bytes-rest : (n from j : ℕ) (s : List ℕ) {r : List ℕ} → r ≡ bytesAt n j s → j ≡ from → length s ≡ from + n → r ≡ drop from s
+bytes-rest n from j s is same h = is ∙ ap (λ (k : ℕ). bytesAt n k s) same ∙ bytes-at-rest n from s (sym h)

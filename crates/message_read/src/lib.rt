@@ -49,7 +49,7 @@ fn radius(message: &[u8], kind: Kind) -> Reading
     if message.len() != 33 {
         return refused(Refusal::Layout);
     }
-    let radius = reversed(&message[1..]);
+    let radius = octets::reversed(octets::part32(message, 1));
     let mut answer = blank(kind);
     answer.radius = radius;
     answer
@@ -131,7 +131,7 @@ fn found_content(message: &[u8]) -> Reading
             if 1 < things(message, count, end) {
                 return refused(Refusal::ItemRule);
             }
-            let id = connection_id(message);
+            let id = octets::part4(message, 1);
             let mut answer = with_records(Kind::FoundContent, found);
             answer.connection = id;
             answer.start = end;
@@ -151,7 +151,7 @@ fn store(message: &[u8]) -> Reading
     if things(message, 0, 9) != 1 {
         return refused(Refusal::ItemRule);
     }
-    let id = connection_id(message);
+    let id = octets::part4(message, 1);
     let mut answer = part(Kind::Store, 9, message.len() - 9);
     answer.connection = id;
     answer
@@ -183,28 +183,6 @@ fn two_offsets(message: &[u8]) -> bool
         return false;
     }
     second < message.len()
-}
-
-// The four bytes after the type.
-fn connection_id(message: &[u8]) -> [u8; 4]
-    requires { ⌜ 4 < length (now message) ⌝ }
-    ensures { λ r. ⌜ r ≡ take 4 (drop 1 (now (message .entry))) ⌝ }
-{
-    [message[1], message[2], message[3], message[4]]
-}
-
-// The bytes in the other order.
-fn reversed(bytes: &[u8]) -> [u8; 32]
-    requires { ⌜ length (now bytes) ≡ 32 ⌝ }
-    ensures { λ r. ⌜ r ≡ reverse (now (bytes .entry)) ⌝ }
-{
-    let mut out = [0u8; 32];
-    let mut from = 32usize;
-    for i in 0..32 {
-        from -= 1;
-        out[i] = bytes[from];
-    }
-    out
 }
 
 // The number of four bytes at a place, lightest first.

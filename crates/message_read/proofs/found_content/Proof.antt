@@ -6,6 +6,7 @@ use lib.ListN.{length}
 use borrow.Author.Needs.{needs}
 use Rattle.message.specs.Report.{blankOf, withConnection, withPart}
 use Rattle.message.specs.declared.Kind.the-variants.{FoundContent}
+use Rattle.message_read.proofs.Lists.{bytes-part}
 use Rattle.message_read.proofs.Answers.{placesIn, answer-as, refused-to}
 use Rattle.message_read.proofs.Found.{content-broken, content-long, content-end, content-refused, content-many, content-good}
 use Rattle.message_read.proofs.found_content.Statement.{statement}
@@ -61,10 +62,8 @@ returns-2 c =
     (sym (at .before .before .reason .ensures) ∙ at .enum-told .given .1) (c .before .before .things .ensures) (search needs))
     (search needs)
 
-connection-id-requires : tie.Need-connection-id-requires
-connection-id-requires c κs =
-    let at = c .before .before .before .before .before .before .before in
-    omega (arith, content-long (at .before .before .before .args .message .now) (at .before .two-offsets .ensures) (at .if1 .left))
+part4-requires : tie.Need-part4-requires
+part4-requires c κs = search needs
 
 with-records-requires : tie.Need-with-records-requires
 with-records-requires c κs = search needs
@@ -91,9 +90,10 @@ returns-4 c =
     let r = at .before .before .before in
     let s = r .before .before .before .before .before .args .message .now in
     let end = 1 + r .before .offset .result in
+    let long = content-long s (r .before .before .before .two-offsets .ensures) (r .before .before .if1 .left) in
     answer-as
     (ap (withPart end (length s - end))
-    (ap₂ withConnection {v = placesIn (blankOf FoundContent) (r .read-records .result)} (c .before .connection-id .ensures) (c .with-records .ensures)))
+    (ap₂ withConnection {v = placesIn (blankOf FoundContent) (r .read-records .result)} (bytes-part 4 1 _ s (c .before .part4 .ensures) (omega arith) (omega arith)) (c .with-records .ensures)))
     (content-good (r .before .before .before .two-offsets .ensures) (r .before .before .if1 .left) (r .before .offset .ensures .0)
     (r .read-records .result) (r .read-records .ensures)
     (sym (at .before .before .reason .ensures) ∙ at .enum-told .given .1) (c .before .before .before .things .ensures) (search needs))
@@ -115,7 +115,7 @@ found-content-spec =
     things-requires
     refused-requires-3
     returns-2
-    connection-id-requires
+    part4-requires
     with-records-requires
     sub-answer
     returns-3

@@ -3,6 +3,7 @@ use native.Mathlib.Omega.{arith}
 use mathlib.Core.Path.{ap₂}
 use borrow.Author.Needs.{needs}
 use Rattle.message.specs.Report.{withConnection}
+use Rattle.message_read.proofs.Lists.{bytes-part}
 use Rattle.message_read.proofs.Answers.{answer-as, part-as, refused-to}
 use Rattle.message_read.proofs.Shapes.{rest-long, store-broken, store-bad, store-good}
 use Rattle.message_read.proofs.store.Statement.{statement}
@@ -30,10 +31,8 @@ returns-2 c =
     (store-bad (at .before .has-rest .ensures) (at .if1 .left) (c .before .before .things .ensures) (search needs))
     (search needs)
 
-connection-id-requires : tie.Need-connection-id-requires
-connection-id-requires c κs =
-    let at = c .before .before in
-    omega (arith, rest-long (at .before .has-rest .ensures) (at .if1 .left))
+part4-requires : tie.Need-part4-requires
+part4-requires c κs = search needs
 
 sub-part : tie.Need-sub-part
 sub-part c =
@@ -46,8 +45,10 @@ part-requires c κs = search needs
 returns-3 : tie.Need-returns-3
 returns-3 c =
     let at = c .before .before .before .before in
+    let s = at .before .before .before .args .message .now in
+    let long = rest-long (at .before .has-rest .ensures) (at .if1 .left) in
     answer-as
-    (ap₂ withConnection (c .before .connection-id .ensures) (part-as (c .part .ensures) (omega arith) (omega arith)))
+    (ap₂ withConnection (bytes-part 4 1 _ s (c .before .part4 .ensures) (omega arith) (omega arith)) (part-as (c .part .ensures) (omega arith) (omega arith)))
     (store-good (at .before .has-rest .ensures) (at .if1 .left) (c .before .before .before .things .ensures) (search needs))
 
 pub store-spec : {M : Type 1} → statement M
@@ -60,7 +61,7 @@ store-spec =
     things-requires
     refused-requires-2
     returns-2
-    connection-id-requires
+    part4-requires
     sub-part
     part-requires
     returns-3)

@@ -10,7 +10,6 @@ use Rattle.refusal.specs.declared.Refusal.{Refusal}
 use Rattle.message.specs.Values.{Message}
 use Rattle.message.specs.Report.{blankOf, withPart, withPlaces, withRecords, reportOf}
 use Rattle.message.specs.Reading.{readingOf, ReadTo}
-use Rattle.message.specs.declared.Kind.{Kind}
 use Rattle.message.specs.declared.Kind.the-variants.{Refused}
 use Rattle.message.specs.declared.Reading.{Reading}
 use Rattle.message_records.specs.Found.{foundOf, RecordsIn}
@@ -52,7 +51,6 @@ pub refused-to : {why : Refusal} {d : Outcome Message} {s : List ℕ} {a : Readi
     → ReadTo d s a
 refused-to {why} p q e = answer-as p (plain-to (blankOf (Refused why)) refl (omega arith) (q ∙ ap refusal (sym e)) refl)
 
--- an answer with a part of the message and no more, where the place is the right one
-pub part-as : {kind : Kind} {start len from size : ℕ} {a : Reading} → a ≡ withPart start len (blankOf kind) → start ≡ from → len ≡ size
-    → a ≡ withPart from size (blankOf kind)
-part-as {kind} p q e = p ∙ ap₂ (λ (x y : ℕ). withPart x y (blankOf kind)) q e
+-- a part of the message set in an answer, where the place is the right one
+pub part-as : {start len from size : ℕ} {a : Reading} (b : Reading) → a ≡ withPart start len b → start ≡ from → len ≡ size → a ≡ withPart from size b
+part-as b p q e = p ∙ ap₂ (λ (x y : ℕ). withPart x y b) q e

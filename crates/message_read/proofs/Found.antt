@@ -1,10 +1,10 @@
 -- What the layout and the rules come to for the two messages with records. `verdictOf` has decided all of it but one test of the
 -- message's own: the total of FoundNodes, the things present of FoundContent. Assumes nothing.
-use Prim.Native.Nat.{ℕ, zero, suc, _+_, _-_, _<_, _≤_}
+use Prim.Native.Nat.{ℕ, _+_, _-_, _<_, _≤_}
 use native.Mathlib.Omega.{arith}
 use mathlib.Core.Path.{_≡_, refl, sym, ap, ap₂, _∙_}
 use mathlib.Core.Bool.{Bool, true, false, cond, not, _&&_, and-comm}
-use mathlib.Core.List.{List, [], _∷_, _++_}
+use mathlib.Core.List.{List}
 use mathlib.Core.Option.{Option, some, none}
 use lib.Dec.{ltb, leb, eqb}
 use lib.ListN.{length, getD, take, drop, length-drop}
@@ -14,7 +14,6 @@ use Rattle.refusal.specs.Says.{saysOf}
 use Rattle.refusal.specs.Outcome.{given, refusal, refused}
 use Rattle.refusal.proofs.Outcomes.{same-refusal, accepted-not}
 use Rattle.refusal.specs.declared.Refusal.{Refusal}
-use Rattle.refusal.specs.declared.Checked.{Checked}
 use Rattle.refusal.specs.declared.Checked.the-variants.{Accepted, Refused}
 use Rattle.message.specs.Values.{Message, foundNodes, foundContent}
 use Rattle.message.specs.Records.{offsetOf, recordsOf}
@@ -24,12 +23,15 @@ use Rattle.message.specs.Report.{blankOf, withTotal, withConnection, withRecord
 use Rattle.message.specs.Reading.{recordsAt, ReadTo}
 use Rattle.message.specs.declared.Kind.the-variants.{FoundNodes, FoundContent}
 use Rattle.message.proofs.Layouts.{TwoOffsets, two-pass, pass-two}
+use Rattle.message_rules.specs.Things.{thingsOf}
+use Rattle.message_rules.proofs.Places.{records-length}
+use Rattle.message_rules.proofs.Present.{things-three}
 use Rattle.message_records.specs.Found.{recordsIn, verdictOf, RecordsIn}
 use Rattle.message_records.specs.declared.Verdict.{Verdict}
 use Rattle.message_records.specs.declared.Verdict.the-variants.{Broken, TooMany, Bad, Good}
 use Rattle.message_records.specs.declared.Records.{Records}
-use Rattle.message_read.specs.Shapes.{RestAt, thingsOf, whyOf}
-use Rattle.message_read.proofs.Lists.{part-rest, present-drop}
+use Rattle.message_read.specs.Shapes.{RestAt, whyOf}
+use Rattle.message_read.proofs.Lists.{part-rest}
 use Rattle.message_read.proofs.Shapes.{rest-none, rest-some, rest-long}
 use Rattle.message_read.proofs.Answers.{placesIn, found-to, found-places}
 
@@ -143,16 +145,6 @@ pub content-broken : (s : List ℕ) {two : Bool} → two ≡ twoOffsets (drop 1 
 unfolding layoutOf foundContentOf
 content-broken s {two = two} w e = rw (sym w ∙ not-true two e)
 
--- there are records where their number is not zero
-present-places : (s starts lens : List ℕ) (n : ℕ) → present (recordsAt s starts lens n) ≡ ltb 0 n
-unfolding recordsAt
-present-places s starts lens zero = refl
-present-places s starts lens (suc n) = present-last (recordsAt s starts lens n) _ ∙ sym (lt-ltb 0 (suc n) (omega arith))
-  where
-    present-last : (xs : List (List ℕ)) (x : List ℕ) → present (xs ++ (x ∷ [])) ≡ true
-    present-last [] x = refl
-    present-last (y ∷ xs) x = refl
-
 -- what the two offsets say of the message
 content-offsets : (s : List ℕ) {two : Bool} → two ≡ twoOffsets (drop 1 s) → not two ≡ false → TwoOffsets (drop 1 s)
 content-offsets s {two = two} w e = pass-two (drop 1 s) (sym w ∙ not-false two e)
@@ -205,17 +197,17 @@ module _ {s : List ℕ} {two : Bool} {second : ℕ} (w : two ≡ twoOffsets (dro
       ∙ found-refused content _ (content-rules (take 4 (drop 1 s)) (drop (1 + second) s)) (recordsIn s 13 (1 + second)) why
       (ap whyOf (sym (f .verdict)) ∙ k)
 
-  module _ {n : ℕ} (k : whyOf (found .verdict) ≡ Accepted) (c : n ≡ thingsOf s (found .count) (1 + second)) where
+  module _ {n : ℕ} (k : whyOf (found .verdict) ≡ Accepted) (c : n ≡ thingsOf (take 4 (drop 1 s)) (found .count) (length s - (1 + second))) where
     content-tested : ruledOr4 (layoutOf 6 (drop 1 s))
         ≡ cond (leb n 1) (given (content (recordsAt s (found .starts) (found .lens) (found .count)))) (refused 6)
-    unfolding offsetOf thingsOf
     content-tested =
         let o = f .value (whyOf-good (found .verdict) k) in
+        let rs = recordsAt s (found .starts) (found .lens) (found .count) in
         ap ruledOr4 (content-layout ∙ ap (mapSome content) o)
         ∙ found-good content _ (content-rules (take 4 (drop 1 s)) (drop (1 + second) s))
         (recordsAt s (found .starts) (found .lens) (found .count))
         (ap (λ (x : Option (List (List ℕ))). whyOf (verdictOf x)) (sym o) ∙ ap whyOf (sym (f .verdict)) ∙ k)
-        ∙ rw (present-places s (found .starts) (found .lens) (found .count), present-drop s (1 + second), ← c)
+        ∙ rw (things-three (take 4 (drop 1 s)) rs (drop (1 + second) s), records-length s (found .starts) (found .lens) (found .count), length-drop (1 + second) s, ← c)
 
     pub content-many : 1 < n → ruledOr4 (layoutOf 6 (drop 1 s)) ≡ refused 6
     content-many h = content-tested ∙ rw (lt-leb n 1 h)

@@ -21,8 +21,10 @@ use Rattle.message.specs.Report.{blankOf, withRadius, withConnection, toEnd, re
 use Rattle.message.specs.Reading.{ReadTo}
 use Rattle.message.specs.declared.Kind.{Kind}
 use Rattle.message.specs.declared.Kind.the-variants.{Ping, Pong, FindNode, FindContent, Offer, Accept, Store}
-use Rattle.message_read.specs.Shapes.{typeOf, RadiusKind, is-ping, is-pong, KeyKind, is-find-content, is-offer, is-accept, RestAt, thingsOf}
-use Rattle.message_read.proofs.Lists.{part-rest, present-drop}
+use Rattle.message_rules.specs.Things.{thingsOf}
+use Rattle.message_rules.proofs.Present.{things-two}
+use Rattle.message_read.specs.Shapes.{typeOf, RadiusKind, is-ping, is-pong, KeyKind, is-find-content, is-offer, is-accept, RestAt}
+use Rattle.message_read.proofs.Lists.{part-rest}
 use Rattle.message_read.proofs.Answers.{plain-to}
 
 -- a message that does not reach behind its fixed part has no rest
@@ -133,12 +135,12 @@ unfolding layoutOf
 store-broken {s = s} t e = ap (λ (o : Option (List ℕ)). ruledOr4 (mapSome (store (take 4 (drop 1 s))) o)) (rest-none t e)
 
 -- exactly one is present of a connection id that is not zero and content
-module _ {s : List ℕ} {r : Bool} {n : ℕ} (t : RestAt 8 s r) (e : not r ≡ false) (c : n ≡ thingsOf s 0 9) where
+module _ {s : List ℕ} {r : Bool} {n : ℕ} (t : RestAt 8 s r) (e : not r ≡ false) (c : n ≡ thingsOf (take 4 (drop 1 s)) 0 (length s - 9)) where
   store-tested : ruledOr4 (layoutOf 9 (drop 1 s)) ≡ cond (eqb n 1) (given (store (take 4 (drop 1 s)) (drop 9 s))) (refused 6)
-  unfolding layoutOf rulesOf offsetOf thingsOf
+  unfolding layoutOf rulesOf
   store-tested =
       let k : one (connected (take 4 (drop 1 s))) + one (present (drop 9 s)) ≡ n =
-      rw (present-drop s 9) (omega arith) in
+      things-two (take 4 (drop 1 s)) (drop 9 s) ∙ ap (thingsOf (take 4 (drop 1 s)) 0) (length-drop 9 s) ∙ sym c in
       ap (λ (o : Option (List ℕ)). ruledOr4 (mapSome (store (take 4 (drop 1 s))) o)) (rest-some t e)
       ∙ ap (λ (m : ℕ). cond (eqb m 1) (given (store (take 4 (drop 1 s)) (drop 9 s))) (refused 6)) k
 

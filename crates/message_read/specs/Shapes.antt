@@ -4,12 +4,9 @@ use mathlib.Core.Path.{_≡_}
 use mathlib.Core.Bool.{Bool, true, cond}
 use mathlib.Core.List.{List}
 use mathlib.Core.Option.{some, none}
-use lib.Dec.{ltb}
 use lib.ListN.{length, drop}
 use Rattle.refusal.specs.declared.Refusal.the-variants.{Layout, TooManyItems, ItemRule}
 use Rattle.refusal.specs.declared.Checked.{Checked}
-use Rattle.message.specs.Records.{offsetOf}
-use Rattle.message.specs.Rules.{one}
 use Rattle.message.specs.Decode.{restOf}
 use Rattle.message.specs.declared.Kind.{Kind}
 use Rattle.message.specs.declared.Kind.the-variants.{Ping, Pong, FindNode, FoundNodes, FindContent, FoundContent, Offer, Accept, Store, Refused}
@@ -44,10 +41,6 @@ pub data KeyKind : Kind → Type 0 where
 pub record RestAt (n : ℕ) (s : List ℕ) (r : Bool) : Type 0 where
   pub value : restOf n (drop 1 s) ≡ cond r (some (drop (n + 1) s)) none
   pub long : r ≡ true → n < length s
-
--- how many are present of a connection id that is not zero, records, and content from a place on
-unfoldable pub thingsOf : List ℕ → ℕ → ℕ → ℕ
-thingsOf s records content = one (ltb 0 (offsetOf (drop 1 s))) + one (ltb 0 records) + one (ltb content (length s))
 
 -- what a verdict on records is refused for
 abbrev pub whyOf : Verdict → Checked

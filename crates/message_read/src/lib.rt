@@ -1,14 +1,11 @@
 // Reads any bytes as one of the nine messages.
-ghost use Prim.Native.Nat.{_+_, _≤_, _<_};
+ghost use Prim.Native.Nat.{_≤_};
 ghost use mathlib.Core.Path.{_≡_};
-ghost use mathlib.Core.List.{reverse};
-ghost use lib.ListN.{length, take, drop};
-ghost use Rattle.message.specs.Records.{offsetOf};
-ghost use Rattle.message.specs.Rules.{one};
+ghost use lib.ListN.{drop};
 ghost use Rattle.message.specs.Decode.{twoOffsets, layoutOf, ruledOr4, decode};
 ghost use Rattle.message.specs.Report.{blankOf, withPart, withPlaces};
 ghost use Rattle.message.specs.Reading.{ReadTo};
-ghost use Rattle.message_read.specs.Shapes.{typeOf, RadiusKind, KeyKind, RestAt, thingsOf, whyOf};
+ghost use Rattle.message_read.specs.Shapes.{typeOf, RadiusKind, KeyKind, RestAt, whyOf};
 use message::Kind;
 use message::Reading;
 use message_records::Records;
@@ -120,22 +117,23 @@ fn found_content(message: &[u8]) -> Reading
     if !two_offsets(message) {
         return refused(Refusal::Layout);
     }
-    let end = 1 + offset(message, 9);
+    let end = 1 + message_rules::offset(message, 9);
     let found = message_records::read_records(message, 13, end);
     let verdict = found.verdict;
     let checked = reason(verdict);
     match checked {
         Checked::Refused(why) => refused(why),
         Checked::Accepted => {
+            let id = octets::part4(message, 1);
             let count = found.count;
-            if 1 < things(message, count, end) {
+            let len = message.len() - end;
+            if 1 < message_rules::things(id, count, len) {
                 return refused(Refusal::ItemRule);
             }
-            let id = octets::part4(message, 1);
             let mut answer = with_records(Kind::FoundContent, found);
             answer.connection = id;
             answer.start = end;
-            answer.len = message.len() - end;
+            answer.len = len;
             answer
         }
     }
@@ -148,11 +146,12 @@ fn store(message: &[u8]) -> Reading
     if !has_rest(message, 8) {
         return refused(Refusal::Layout);
     }
-    if things(message, 0, 9) != 1 {
+    let id = octets::part4(message, 1);
+    let len = message.len() - 9;
+    if message_rules::things(id, 0, len) != 1 {
         return refused(Refusal::ItemRule);
     }
-    let id = octets::part4(message, 1);
-    let mut answer = part(Kind::Store, 9, message.len() - 9);
+    let mut answer = part(Kind::Store, 9, len);
     answer.connection = id;
     answer
 }
@@ -165,7 +164,7 @@ fn has_rest(message: &[u8], n: usize) -> bool
     if message.len() <= n {
         return false;
     }
-    offset(message, n - 3) == n
+    message_rules::offset(message, n - 3) == n
 }
 
 // The two offsets of FoundContent: 12, and one from 12 to the container's length.
@@ -175,43 +174,14 @@ fn two_offsets(message: &[u8]) -> bool
     if message.len() < 13 {
         return false;
     }
-    if offset(message, 5) != 12 {
+    if message_rules::offset(message, 5) != 12 {
         return false;
     }
-    let second = offset(message, 9);
+    let second = message_rules::offset(message, 9);
     if second < 12 {
         return false;
     }
     second < message.len()
-}
-
-// The number of four bytes at a place, lightest first.
-fn offset(s: &[u8], at: usize) -> usize
-    requires { ⌜ at + 4 ≤ length (now s) ⌝ }
-    ensures { λ r. ⌜ (r ≡ offsetOf (drop at (now (s .entry)))) × (r < 4294967296) ⌝ }
-{
-    wide(s[at]) + 256 * (wide(s[at + 1]) + 256 * (wide(s[at + 2]) + 256 * wide(s[at + 3])))
-}
-
-fn wide(x: u8) -> usize
-    ensures { λ r. ⌜ (r ≡ x) × (r < 256) ⌝ }
-{
-    x as usize
-}
-
-// How many are present of a connection id that is not zero, records, and content from a place on.
-fn things(message: &[u8], records: usize, content: usize) -> usize
-    requires { ⌜ 4 < length (now message) ⌝ }
-    ensures { λ r. ⌜ r ≡ thingsOf (now (message .entry)) records content ⌝ }
-{
-    one(0 < offset(message, 1)) + one(0 < records) + one(content < message.len())
-}
-
-// 1 where a thing is present.
-fn one(present: bool) -> usize
-    ensures { λ r. ⌜ (r ≡ one present) × (r ≤ 1) ⌝ }
-{
-    if present { 1 } else { 0 }
 }
 
 // What a list of records is refused for.

@@ -1,14 +1,13 @@
 -- The offsets of a list that stands in a message: each is read from four bytes of the message, and their order goes pair by pair, with the
 -- list's size behind the last. Assumes nothing.
 use Prim.Native.Nat.{ℕ, zero, suc, _+_, _*_, _-_, _<_, _≤_}
-use native.Mathlib.Nat.{add-zero}
 use native.Mathlib.Numerals.{add-one}
 use native.Mathlib.Omega.{arith}
 use mathlib.Core.Path.{_≡_, refl, sym, ap, _∙_}
 use mathlib.Core.Bool.{true, false, _&&_, and-true}
 use mathlib.Core.List.{List, [], _∷_}
 use lib.ListN.{length, getD, take, drop, length-drop, drop-of-length-le}
-use lib.Seq.{drop-drop, drop-at, getD-drop, length-take-le, take-add, take-take}
+use lib.Seq.{drop-drop, drop-at, length-take-le, take-add, take-take}
 use lib.Dec.{leb}
 use borrow.Author.Tests.{leb-true, le-leb, lt-leb}
 use Rattle.octets.specs.Bytes.{le}
@@ -17,20 +16,6 @@ use Rattle.message.specs.Reading.{partAt}
 use Rattle.message.proofs.Tests.{both}
 use Rattle.message.proofs.Records.{offsets-count}
 use Rattle.message_records.specs.Places.{offsetAt}
-
--- an offset is the number of four bytes, the first one lightest
-offset-four : (t : List ℕ) → offsetOf t ≡ getD t 0 0 + 256 * (getD t 1 0 + 256 * (getD t 2 0 + 256 * getD t 3 0))
-unfolding offsetOf le
-offset-four [] = refl
-offset-four (a ∷ []) = omega arith
-offset-four (a ∷ b ∷ []) = omega arith
-offset-four (a ∷ b ∷ c ∷ []) = omega arith
-offset-four (a ∷ b ∷ c ∷ d ∷ t) = omega arith
-
-pub four-bytes : (s : List ℕ) (at a b c d : ℕ)
-    → a ≡ getD s at 0 → b ≡ getD s (at + 1) 0 → c ≡ getD s (at + 2) 0 → d ≡ getD s (at + 3) 0
-    → a + 256 * (b + 256 * (c + 256 * d)) ≡ offsetOf (drop at s)
-four-bytes s at a b c d p q r t = rw (p, q, r, t) (sym (offset-four (drop at s) ∙ simp (getD-drop, add-zero)))
 
 -- behind the first k bytes of a part stands a smaller part
 pub part-drop : (s : List ℕ) (base size k : ℕ) → k ≤ size → base + size ≤ length s

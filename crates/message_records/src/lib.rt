@@ -1,9 +1,9 @@
 // The list of records in a message, for FoundNodes and FoundContent: its layout, the number of records, and the rules on them.
-ghost use Prim.Native.Nat.{_+_, _*_, _≤_, _<_};
+ghost use Prim.Native.Nat.{_+_, _*_, _≤_};
 ghost use mathlib.Core.Path.{_≡_};
 ghost use mathlib.Core.Bool.{true};
-ghost use lib.ListN.{length, drop};
-ghost use Rattle.message.specs.Records.{offsetOf, offsetsOf, ordered};
+ghost use lib.ListN.{length};
+ghost use Rattle.message.specs.Records.{offsetsOf, ordered};
 ghost use Rattle.message.specs.Reading.{partAt};
 ghost use Rattle.message_records.specs.Found.{RecordsIn};
 ghost use Rattle.message_records.specs.Places.{nothing, laidCount, offsetAt, placesAt};
@@ -69,24 +69,6 @@ fn none(verdict: Verdict) -> Records
     }
 }
 
-fn wide(x: u8) -> usize
-    ensures { λ r. ⌜ (r ≡ x) × (r < 256) ⌝ }
-{
-    x as usize
-}
-
-// The offset of four bytes at a place, lightest first.
-fn offset(s: &[u8], at: usize) -> usize
-    requires { ⌜ at + 4 ≤ length (now s) ⌝ }
-    ensures { λ r. ⌜ r ≡ offsetOf (drop at (now (s .entry))) ⌝ }
-{
-    let a = wide(s[at]);
-    let b = wide(s[at + 1]);
-    let c = wide(s[at + 2]);
-    let d = wide(s[at + 3]);
-    a + 256 * (b + 256 * (c + 256 * d))
-}
-
 // The number of records of a list that has bytes, or 0 where its layout is broken. Every offset is examined.
 fn layout(s: &[u8], base: usize, size: usize) -> usize
     requires { ⌜ base + size ≤ length (now s) ⌝ }
@@ -95,7 +77,7 @@ fn layout(s: &[u8], base: usize, size: usize) -> usize
     if size < 4 {
         return 0;
     }
-    let first = offset(s, base);
+    let first = message_rules::offset(s, base);
     if first < 4 {
         return 0;
     }
@@ -134,7 +116,7 @@ fn offset_at(s: &[u8], base: usize, size: usize, count: usize, i: usize) -> usiz
     ensures { λ r. ⌜ r ≡ offsetAt (partAt (now (s .entry)) base size) size count i ⌝ }
 {
     if i < count {
-        offset(s, base + 4 * i)
+        message_rules::offset(s, base + 4 * i)
     } else {
         size
     }

@@ -3,6 +3,8 @@ use native.Mathlib.Omega.{arith}
 use mathlib.Core.Path.{_∙_, ap}
 use lib.Dec.{eqb}
 use Rattle.message.specs.Rules.{allDifferent}
+use Rattle.message.specs.Report.{blankOf}
+use Rattle.message.specs.declared.Kind.the-variants.{FindNode}
 use Rattle.message_read.proofs.Lists.{part-rest}
 use Rattle.message_read.proofs.Answers.{answer-as, part-as, refused-to}
 use Rattle.message_read.proofs.Shapes.{rest-long, distances-broken, distances-many, distances-equal, distances-good}
@@ -59,7 +61,7 @@ part-requires c κs = search needs
 returns-4 : tie.Need-returns-4
 returns-4 c =
     let at = c .before .before .before .before in
-    answer-as (part-as (c .part .ensures) (omega arith) (omega arith))
+    answer-as (part-as (blankOf FindNode) (c .part .ensures) (omega arith) (omega arith))
     (distances-good (at .before .before .has-rest .ensures) (at .before .if1 .left) (search needs)
     (c .before .before .all-different .ensures ∙ ap (allDifferent eqb) (part-rest (at .before .before .before .before .args .message .now) 5)) (c .before .if3 .left))
 

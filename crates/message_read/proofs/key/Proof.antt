@@ -5,6 +5,7 @@ use mathlib.Core.Bool.{not}
 use borrow.Author.Needs.{needs}
 use Rattle.refusal.proofs.Outcomes.{was-given, was-refused}
 use Rattle.content_key.specs.Key.{keyOf}
+use Rattle.message.specs.Report.{blankOf}
 use Rattle.message_read.proofs.Lists.{part-rest}
 use Rattle.message_read.proofs.Answers.{answer-as, part-as, refused-to}
 use Rattle.message_read.proofs.Shapes.{rest-long, key-broken, key-bad, key-good}
@@ -51,7 +52,7 @@ returns c =
     let at = c .before .before .before .before .before in
     let k = was-given _ _ (c .before .before .before .key .ensures .0) (c .before .enum-told .given .1) in
     let start = at .before .before .before in
-    answer-as (part-as (c .part .ensures) (omega arith) (omega arith))
+    answer-as (part-as (blankOf (start .args .kind)) (c .part .ensures) (omega arith) (omega arith))
     (key-good (start .pre) (at .before .has-rest .ensures) (ap not (at .if1 .taken)) (k ∙ ap keyOf (part-rest (start .args .message .now) 5)))
 
 returns-2 : tie.Need-returns-2

@@ -27,7 +27,7 @@ whole c = part-length (c .args .s .now) (c .args .base) (c .args .size) (search 
 first : (c : tie.After-offset) → c .offset .result ≡ offsetOf (list (c .before .before .before))
 first c =
     let a = c .before .before .before .args in
-    c .offset .ensures ∙ sym (offset-first (a .s .now) (a .base) (a .size) (search needs))
+    c .offset .ensures .0 ∙ sym (offset-first (a .s .now) (a .base) (a .size) (search needs))
 
 returns : tie.Need-returns
 returns c =

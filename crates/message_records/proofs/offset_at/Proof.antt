@@ -19,7 +19,7 @@ offset-requires c κs = search needs
 returns : tie.Need-returns
 returns c =
     let a = c .before .before .before .args in
-    omega (arith, c .offset .ensures, offset-inside (a .s .now) (a .base) (a .size) (a .count) (a .i) (search needs) (search needs) (search needs))
+    omega (arith, c .offset .ensures .0, offset-inside (a .s .now) (a .base) (a .size) (a .count) (a .i) (search needs) (search needs) (search needs))
 
 returns-2 : tie.Need-returns-2
 returns-2 c =

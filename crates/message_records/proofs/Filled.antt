@@ -57,7 +57,7 @@ filled-is f n a ns w few is same =
     front : length (take n a) ≡ n
     front = length-take-le n a (omega (arith, w .all))
 
--- the list itself, where it is not too long
+-- those are 32, and start with the list
 in32-length : (ns : List ℕ) → length ns ≤ 32 → length (in32 ns) ≡ 32
 in32-length ns h = omega (arith, length-append ns (replicate (32 - length ns) 0), length-replicate {A = ℕ} (32 - length ns) 0)
 

@@ -6,7 +6,7 @@ use native.Mathlib.Omega.{arith}
 use mathlib.Core.Path.{_≡_, refl, sym, ap, _∙_}
 use mathlib.Core.Bool.{true, false, _&&_, and-true}
 use mathlib.Core.List.{List, [], _∷_}
-use lib.ListN.{length, getD, take, drop, length-drop, drop-of-length-le}
+use lib.ListN.{length, getD, take, drop, length-drop, drop-of-length-le, List·getD-eq-default}
 use lib.Seq.{drop-drop, drop-at, length-take-le, take-add, take-take}
 use lib.Dec.{leb}
 use borrow.Author.Tests.{leb-true, le-leb, lt-leb}
@@ -53,14 +53,9 @@ offset-inside s base size count i fits room h =
     ∙ offset-first s (base + 4 * i) (size - 4 * i) (omega arith))
 
 -- past the last offset stands the size
-past-end : (os : List ℕ) (i d : ℕ) → length os ≤ i → getD os i d ≡ d
-past-end [] i d h = refl
-past-end (o ∷ os) zero d h = absurd (omega arith)
-past-end (o ∷ os) (suc i) d h = past-end os i d (omega arith)
-
 pub offset-end : (l : List ℕ) (size count i : ℕ) → count ≤ i → size ≡ offsetAt l size count i
 unfolding offsetAt
-offset-end l size count i h = sym (past-end (offsetsOf count l) i size (omega (arith, offsets-count count l)))
+offset-end l size count i h = sym (List·getD-eq-default (offsetsOf count l) size (omega (arith, offsets-count count l)))
 
 -- the order from a place on is the order of two offsets and the order of the rest
 ordered-at : (end : ℕ) (os : List ℕ) (i : ℕ) → i < length os

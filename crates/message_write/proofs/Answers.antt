@@ -25,8 +25,8 @@ pub refused-writes : {o : Outcome (List ℕ)} (why : Refusal) (d : List ℕ) →
 refused-writes why d e = record { answered = sym (ap counted e); buffer = sym (ap (λ (k : Outcome (List ℕ)). written k d) e) }
 
 -- the same bytes are written
-pub writes-as : {o o′ : Outcome (List ℕ)} {r : Wrote} {d a : List ℕ} → o ≡ o′ → Writes o′ r d a → Writes o r d a
-writes-as {r = r} {d = d} {a = a} e w = subst (λ (k : Outcome (List ℕ)). Writes k r d a) (sym e) w
+pub writes-as : {o o′ : Outcome (List ℕ)} {r : Wrote} {d a : List ℕ} → Writes o′ r d a → o ≡ o′ → Writes o r d a
+writes-as {r = r} {d = d} {a = a} w e = subst (λ (k : Outcome (List ℕ)). Writes k r d a) (sym e) w
 
 -- the tests of the size
 pub size-long : (n room : ℕ) → 1280 < n → Refused LongMessage ≡ sizeWhy n room
@@ -63,8 +63,9 @@ module _ (bytes : List ℕ) (n room : ℕ) (long : length bytes ≡ n) where
 pub wrote : (bytes d a : List ℕ) (n : ℕ) → length bytes ≡ n → Accepted ≡ sizeWhy n (length d) → Put d 0 bytes a → (k : ℕ) → k ≡ n
     → Writes (fitting bytes (length d)) (Wrote.Bytes k) d a
 wrote bytes d a n long e p k is =
-    writes-as given-fits
+    writes-as
     (record { answered = ap given (is ∙ sym long); buffer = p .value ∙ ap (λ (j : ℕ). bytes ++ drop j d) (zero-add (length bytes)) })
+    given-fits
   where
     sizes : (n ≤ 1280) × (n ≤ length d)
     sizes = size-accepted n (length d) e

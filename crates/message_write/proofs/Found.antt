@@ -14,18 +14,18 @@ use Rattle.refusal.proofs.Outcomes.{same-refusal, accepted-not}
 use Rattle.refusal.specs.declared.Refusal.{Refusal}
 use Rattle.refusal.specs.declared.Refusal.the-variants.{TooManyItems, ItemRule}
 use Rattle.refusal.specs.declared.Checked.the-variants.{Accepted, Refused}
-use Rattle.octets.specs.Bytes.{leBytes}
 use Rattle.message.specs.Values.{Message, foundNodes, foundContent}
 use Rattle.message.specs.Encode.{offset, listBytes, encode}
 use Rattle.message.specs.Rules.{one, present, connected, allDifferent, sameBytes, recordSizes, goodRecords, ruled, rulesOf}
 use Rattle.message.specs.Reading.{recordsAt}
 use Rattle.message.proofs.Tests.{both}
+use Rattle.message_rules.specs.Things.{thingsOf}
 use Rattle.message_rules.proofs.Places.{part-length, records-length, record-at}
-use Rattle.message_write.specs.Lent.{lent}
+use Rattle.message_rules.proofs.Present.{things-three}
+use Rattle.message_write.specs.Lent.{lent, lentWhy, LentTo}
 use Rattle.message_write.specs.Write.{fitting, ruledBytes, bytesForLent}
-use Rattle.message_write.specs.Parts.{thingsOf, lentWhy, LentTo}
-use Rattle.message_write.specs.declared.Lent.{Lent}
-use Rattle.message_write.proofs.Lists.{present-length, size-at}
+use Rattle.message_write.specs.declared.records.Lent.{Lent}
+use Rattle.message_write.proofs.Lists.{size-at}
 
 -- what is left of the rules once the records have their answer
 why-refused : (few good more : Bool) (m : Message) (room : ℕ) (why : Refusal)
@@ -102,14 +102,13 @@ module _ (s starts lens : List ℕ) (r : Lent) (l : LentTo s starts lens r) wher
     pub nodes-none : r .checked ≡ Accepted → total ≡ 0 → bytesForLent (foundNodes total) (lent s starts lens) room ≡ refused 6
     nodes-none e z = nodes-tested e ∙ ap (λ (n : ℕ). cond (ltb 0 n) (fitting (encode (foundNodes total records)) room) (refused 6)) z
 
-    pub nodes-good : r .checked ≡ Accepted → (total ≡ 0 → ⊥)
-        → bytesForLent (foundNodes total) (lent s starts lens) room ≡ fitting ((4 ∷ total ∷ 5 ∷ 0 ∷ 0 ∷ 0 ∷ []) ++ listBytes records ++ []) room
-    unfolding encode leBytes
-    nodes-good e z =
-        let some-total : 0 < total = omega arith in
+    pub nodes-good : r .checked ≡ Accepted → 0 < total → (head : List ℕ) (t : ℕ) → head ≡ 4 ∷ t ∷ offset 5 → t ≡ total
+        → bytesForLent (foundNodes total) (lent s starts lens) room ≡ fitting (head ++ listBytes records ++ []) room
+    unfolding encode
+    nodes-good e some-total head t h q =
         nodes-tested e
-        ∙ rw (lt-ltb 0 total some-total)
-        (ap (λ (b : List ℕ). fitting b room) (sym (append-nil ((4 ∷ total ∷ 5 ∷ 0 ∷ 0 ∷ 0 ∷ []) ++ listBytes records))))
+        ∙ rw (lt-ltb 0 total some-total, h, q)
+        (ap (λ (b : List ℕ). fitting b room) (sym (append-nil (4 ∷ total ∷ (offset 5 ++ listBytes records)))))
 
   -- FoundContent
   module _ (connection content : List ℕ) (room : ℕ) where
@@ -128,9 +127,10 @@ module _ (s starts lens : List ℕ) (r : Lent) (l : LentTo s starts lens r) wher
 
     module _ (n : ℕ) (is : n ≡ thingsOf connection (r .count) (length content)) (e : r .checked ≡ Accepted) where
       counted : one (connected connection) + one (present records) + one (present content) ≡ n
-      unfolding thingsOf
       counted =
-          rw (present-length records, present-length content, records-length s (r .starts) (r .lens) (r .count)) (sym is)
+          things-three connection records content
+          ∙ ap (λ (k : ℕ). thingsOf connection k (length content)) (records-length s (r .starts) (r .lens) (r .count))
+          ∙ sym is
 
       content-tested : bytesForLent made (lent s starts lens) room ≡ cond (leb n 1) (fitting (encode (made records)) room) (refused 6)
       content-tested =

@@ -1,3 +1,4 @@
+pub mod Offsets
 pub mod Puts
 pub mod Answers
 pub mod Lists

@@ -1,16 +1,15 @@
--- Lists that are written: sums of lengths, bytes in the other order, what is present, and the sizes of good records. Assumes nothing.
+-- Sums of the lengths of records, and the sizes of good records. Assumes nothing.
 use Prim.Native.Nat.{ℕ, zero, suc, _+_, _≤_, _<_}
 use native.Mathlib.Numerals.{add-one}
 use native.Mathlib.Decide.{decLe}
 use native.Mathlib.Omega.{arith}
-use mathlib.Core.Path.{_≡_, refl, sym, ap, _∙_}
+use mathlib.Core.Path.{_≡_, refl}
 use mathlib.Core.Bool.{true, _&&_}
-use mathlib.Core.List.{List, [], _∷_, reverse, reverse-cons}
-use lib.Dec.{leb, ltb}
-use lib.ListN.{length, getD, length-reverse, List·getD-append}
-use lib.Seq.{getD-at}
-use borrow.Author.Tests.{lt-ltb, leb-true}
-use Rattle.message.specs.Rules.{present, recordSizes}
+use mathlib.Core.List.{List, [], _∷_}
+use lib.Dec.{leb}
+use lib.ListN.{length, getD}
+use borrow.Author.Tests.{leb-true}
+use Rattle.message.specs.Rules.{recordSizes}
 use Rattle.message.proofs.Tests.{both}
 use Rattle.message_write.specs.Parts.{sumTo}
 
@@ -32,22 +31,6 @@ sum-rise lens i (suc n) h = go (sum-rise lens i n) (decLe i n)
     go : (i ≤ n → sumTo lens i ≤ sumTo lens n) → Dec (i ≤ n) → sumTo lens i ≤ sumTo lens (suc n)
     go before (yes e) = omega (arith, before e)
     go before (no ne) = let same : i ≡ suc n = omega arith in rw same (omega arith)
-
--- an element of bytes in the other order
-pub reverse-at : (xs : List ℕ) (i j : ℕ) → i + suc j ≡ length xs → getD (reverse xs) i 0 ≡ getD xs j 0
-reverse-at [] i j h = absurd (omega arith)
-reverse-at (x ∷ xs) i zero h =
-    ap (λ (l : List ℕ). getD l i 0) (reverse-cons x xs)
-    ∙ getD-at (reverse xs) x [] 0 i (omega (arith, length-reverse xs))
-reverse-at (x ∷ xs) i (suc j) h =
-    ap (λ (l : List ℕ). getD l i 0) (reverse-cons x xs)
-    ∙ List·getD-append (reverse xs) (x ∷ []) 0 i (omega (arith, length-reverse xs))
-    ∙ reverse-at xs i j (omega arith)
-
--- something is there
-pub present-length : {A : Type 0} (xs : List A) → present xs ≡ ltb 0 (length xs)
-present-length [] = refl
-present-length (x ∷ xs) = sym (lt-ltb 0 (suc (length xs)) (omega arith))
 
 -- records whose sizes are good have at most 300 bytes each
 pub size-at : (rs : List (List ℕ)) → recordSizes rs ≡ true → (i : ℕ) → i < length rs → length (getD rs i []) ≤ 300

@@ -7,7 +7,8 @@ use mathlib.Core.Bool.{Bool, true, false, cond, not, _&&_, and-assoc}
 use mathlib.Core.List.{List, [], _∷_, _++_}
 use mathlib.Core.Option.{Option, some, none}
 use lib.Dec.{eqb, leb}
-use lib.ListN.{length, getD, drop, replicate, length-append, length-drop, length-replicate, List·getD-append}
+use lib.ListN.{length, getD, take, drop, replicate, length-append, length-drop, length-replicate, List·getD-append}
+use lib.Seq.{length-take-le, getD-take}
 use borrow.Author.Tests.{eq-eqb, ne-eqb, eqb-true, eqb-false, le-leb, lt-leb, leb-true, leb-false, not-true, not-false}
 use Rattle.refusal.specs.declared.Refusal.{Refusal}
 use Rattle.refusal.specs.declared.Refusal.the-variants.{Layout, TooManyItems, ItemRule}
@@ -20,9 +21,9 @@ use Rattle.message.specs.Reading.{partAt, recordsAt}
 use Rattle.message.proofs.Tests.{both, passed}
 use Rattle.message_rules.specs.Good.{insideAt, goodAt, Places}
 use Rattle.message_rules.proofs.Places.{records-length}
-use Rattle.message_rules.proofs.Good.{outside-at, inside-all, good-inside}
-use Rattle.message_write.specs.Lent.{within, lent}
-use Rattle.message_write.specs.Parts.{allWithin, padded, lentWhy, unlentOf, LentTo}
+use Rattle.message_rules.proofs.Good.{outside-at, inside-all, all-inside, good-inside}
+use Rattle.message_write.specs.declared.records.Lent.{Lent}
+use Rattle.message_write.specs.Lent.{within, lent, allWithin, padded, lentWhy, unlentOf, LentTo}
 use Rattle.refusal.proofs.Outcomes.{accepted-not}
 
 module _ (s starts lens : List ℕ) where
@@ -138,6 +139,30 @@ lent-bytes s starts lens b rs e =
     (records-bytes s starts lens b (length starts))
 
 -- places in an array
+-- the same places have the same records
+records-same : (s as′ ns bs ms : List ℕ) (k : ℕ) → ((i : ℕ) → i < k → getD as′ i 0 ≡ getD bs i 0) → ((i : ℕ) → i < k → getD ns i 0 ≡ getD ms i 0)
+    → recordsAt s as′ ns k ≡ recordsAt s bs ms k
+unfolding recordsAt
+records-same s as′ ns bs ms zero e f = refl
+records-same s as′ ns bs ms (suc k) e f =
+    ap₂ (λ (rs : List (List ℕ)) (r : List ℕ). rs ++ (r ∷ []))
+    (records-same s as′ ns bs ms k (λ i h. e i (omega arith)) (λ i h. f i (omega arith)))
+    (ap₂ (partAt s) (e k (omega arith)) (f k (omega arith)))
+
+-- the first places of arrays, lent
+pub lent-first : (s starts lens : List ℕ) (n : ℕ) → n ≤ length starts → n ≤ length lens
+    → ((i : ℕ) → i < n → getD starts i 0 + getD lens i 0 ≤ length s)
+    → lent s (take n starts) (take n lens) ≡ some (recordsAt s starts lens n)
+lent-first s starts lens n h g inside =
+    lent-all s (take n starts) (take n lens)
+    ∙ rw (length-take-le n starts h, length-take-le n lens g, eq-eqb n n refl, every-inside)
+    (ap some (records-same s (take n starts) (take n lens) starts lens n (λ i less. getD-take n starts i 0 less) (λ i less. getD-take n lens i 0 less)))
+  where
+    every-inside : insideAt s (take n starts) (take n lens) n ≡ true
+    every-inside =
+        all-inside s (take n starts) (take n lens) n
+        (λ i less. omega (arith, inside i less, getD-take n starts i 0 less, getD-take n lens i 0 less))
+
 padded-at : (xs : List ℕ) (i : ℕ) → i < length xs → getD (padded xs) i 0 ≡ getD xs i 0
 padded-at xs i h = List·getD-append xs (drop (length xs) (replicate 32 0)) 0 i h
 
@@ -147,12 +172,9 @@ padded-length xs h =
 
 records-padded : (s starts lens : List ℕ) (k : ℕ) → k ≤ length starts → k ≤ length lens
     → recordsAt s (padded starts) (padded lens) k ≡ recordsAt s starts lens k
-unfolding recordsAt
-records-padded s starts lens zero h g = refl
-records-padded s starts lens (suc k) h g =
-    ap₂ (λ (rs : List (List ℕ)) (r : List ℕ). rs ++ (r ∷ []))
-    (records-padded s starts lens k (omega arith) (omega arith))
-    (ap₂ (partAt s) (padded-at starts k (omega arith)) (padded-at lens k (omega arith)))
+records-padded s starts lens k h g =
+    records-same s (padded starts) (padded lens) starts lens k
+    (λ i less. padded-at starts i (omega arith)) (λ i less. padded-at lens i (omega arith))
 
 -- no places, for a reason
 unlent-to : (s starts lens : List ℕ) (why : Refusal) → Refused why ≡ lentWhy (lent s starts lens) → LentTo s starts lens (unlentOf why)
@@ -162,6 +184,11 @@ unlent-to s starts lens why e =
       records = λ q. accepted-not why (sym q);
       places = record { few = omega arith; starts-all = refl; lens-all = refl; inside = λ i h. absurd (omega arith) };
     }
+
+-- an answer with this reason, where it is the right one
+pub unlent-as : {s starts lens : List ℕ} {r : Lent} {why right : Refusal} → r ≡ unlentOf why → LentTo s starts lens (unlentOf right) → why ≡ right
+    → LentTo s starts lens r
+unlent-as {s} {starts} {lens} is l e = subst (LentTo s starts lens) (sym (is ∙ ap unlentOf e)) l
 
 module _ (s starts lens : List ℕ) (t : Bool) (is : t ≡ allWithin s starts lens) where
   -- a place is not within the bytes, or starts and lengths differ in number

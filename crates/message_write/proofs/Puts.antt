@@ -1,23 +1,30 @@
--- Bytes put into a buffer: a copy that is done, one part behind another, and a part at the front. Assumes nothing.
+-- Bytes put into a buffer: where they have room, no bytes, and one part behind another. Assumes nothing.
 use Prim.Native.Nat.{ℕ, _+_, _≤_}
 use native.Mathlib.Numerals.{unary-clauses}
 use native.Mathlib.Omega.{arith}
 use mathlib.Core.Path.{_≡_, refl, sym, ap, ap₂, _∙_}
 use mathlib.Core.List.{List, [], _++_, append-assoc, append-nil}
-use lib.ListN.{length, take, drop, take-append-drop, length-append}
-use lib.Seq.{length-take-le, take-at, drop-at, drop-drop, take-length, paste}
+use lib.ListN.{length, take, drop, take-append-drop, length-append, length-drop}
+use lib.Seq.{length-take-le, take-at, drop-at, drop-drop}
+use Rattle.octets.specs.Buffer.{placed}
+use Rattle.octets.proofs.Buffers.{placed-room}
 use Rattle.message_write.specs.Parts.{Put}
 
--- a copy of all bytes
-pub put-all : (d : List ℕ) (at : ℕ) (bytes out : List ℕ) (i : ℕ) → at + length bytes ≤ length d → i ≡ length bytes → length out ≡ length d
-    → out ≡ paste d at bytes i → Put d at bytes out
-put-all d at bytes out i room last same is =
+-- bytes placed where they have room
+pub put-placed : (d : List ℕ) (at : ℕ) (bytes after : List ℕ) → at + length bytes ≤ length d → after ≡ placed d at bytes → Put d at bytes after
+put-placed d at bytes after room is =
+    let value : after ≡ take at d ++ bytes ++ drop (at + length bytes) d = is ∙ placed-room d at bytes room in
     record {
       fits = room;
-      kept = same;
-      value = is
-          ∙ ap (paste d at bytes) last
-          ∙ ap (λ (l : List ℕ). take at d ++ l ++ drop (at + length bytes) d) (take-length bytes);
+      kept = omega (
+        arith,
+        ap length value,
+        length-append (take at d ++ bytes) (drop (at + length bytes) d),
+        length-append (take at d) bytes,
+        length-take-le at d (omega arith),
+        length-drop (at + length bytes) d,
+      );
+      value = value;
     }
 
 -- nothing is put

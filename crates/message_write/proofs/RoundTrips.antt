@@ -11,7 +11,7 @@ use lib.Dec.{ltb}
 use lib.ListN.{length, take, drop, length-append}
 use lib.Seq.{take-at}
 use borrow.Author.Tests.{le-ltb, ltb-false}
-use Rattle.refusal.specs.Says.{Said, only}
+use Rattle.refusal.specs.Says.{Said, only, saysOf}
 use Rattle.refusal.specs.Outcome.{Outcome, given, refusal, refused}
 use Rattle.refusal.specs.Buffer.{Writes}
 use Rattle.refusal.specs.declared.Wrote.{Wrote}
@@ -20,19 +20,16 @@ use Rattle.message.specs.Values.{Message, Sized, Formed, foundNodes, foundConte
 use Rattle.message.specs.Encode.{encode}
 use Rattle.message.specs.Rules.{rulesOf}
 use Rattle.message.specs.Decode.{decode}
-use Rattle.message.specs.Reading.{readingOf, ReadTo}
+use Rattle.message.specs.Reading.{recordsAt, valuesOf, readingOf, ReadTo}
+use Rattle.message.specs.declared.Kind.{Kind}
+use Rattle.message.specs.declared.Kind.the-variants.{Ping, Pong, FindNode, FoundNodes, FindContent, FoundContent, Offer, Accept, Store, Refused}
 use Rattle.message.specs.declared.Reading.{Reading}
 use Rattle.message.proofs.Rules.{Judged, kept, broken, judged}
 use Rattle.message.proofs.Messages.{written-read, read-written, read-formed, read-short}
 use Rattle.message_write.specs.Lent.{lent}
 use Rattle.message_write.specs.Write.{ruledBytes, bytesFor, bytesForLent}
-use Rattle.message_write.proofs.Loans.{lent-bytes}
-
--- the first n bytes of the buffer are the message, and are read as its values
-pub record WrittenBack (m : Message) (n : ℕ) (after : List ℕ) : Type 0 where
-  pub inside : n ≤ length after
-  pub bytes : take n after ≡ encode m
-  pub read : decode (take n after) ≡ given m
+use Rattle.message_write.specs.RoundTrips.{WrittenBack, LentBack, partOf, lentOf, rewrittenAs, rewritten}
+use Rattle.message_write.proofs.Loans.{lent-bytes, lent-first}
 
 given-not : {A : Type 0} {B : Type 0} (says : Said) (a : A) → refusal says ≡ given a → B
 given-not says a e = absurd (let z : _≡_ {A = ℕ} 0 1 = cc in omega arith)
@@ -78,12 +75,7 @@ pub written-reads : (m : Message) → Formed m → (room n : ℕ) (before after 
     → (a : Reading) → ReadTo (decode (take n after)) (take n after) a → readingOf (take n after) a ≡ given m
 written-reads m f room n before after w a r = r .value ∙ written-back m f room n before after w .read
 
--- the same for a message of records that are lent: there are such records, and the message is read back with them
-pub record LentBack (make : List (List ℕ) → Message) (o : Option (List (List ℕ))) (n : ℕ) (after : List ℕ) : Type 0 where
-  pub records : List (List ℕ)
-  pub lent : o ≡ some records
-  pub back : WrittenBack (make records) n after
-
+-- the same for a message of records that are lent
 lent-back : (make : List (List ℕ) → Message) (o : Option (List (List ℕ))) → ((rs : List (List ℕ)) → o ≡ some rs → Formed (make rs))
     → (room n : ℕ) (before after : List ℕ) → Writes (bytesForLent make o room) (Wrote.Bytes n) before after → LentBack make o n after
 lent-back make none f room n before after w = given-not (only 4) n (sym (w .answered))
@@ -115,3 +107,27 @@ module _ (s : List ℕ) (are : Bytes s) (a : Reading) (r : ReadTo (decode s) s a
       let short : length s ≤ 1280 = subst (λ (l : List ℕ). length l ≤ 1280) read-again (read-short s m are d) in
       ap (λ (o : Outcome Message). ruledBytes o room) (read-formed s m are d .1)
       ∙ rw (read-again, le-ltb 1280 (length s) short, le-ltb room (length s) h)
+
+-- the call of each kind is handed the values that the answer stands for
+module _ (s : List ℕ) (a : Reading) (same : lentOf s a ≡ some (recordsAt s (a .starts) (a .lens) (a .count))) (room : ℕ) where
+  as-values : (k : Kind) (m : Message) → valuesOf s a k ≡ given m → rewrittenAs s a room k ≡ bytesFor m room
+  as-values Ping m e = ap (λ (v : Message). bytesFor v room) (cc)
+  as-values Pong m e = ap (λ (v : Message). bytesFor v room) (cc)
+  as-values FindNode m e = ap (λ (v : Message). bytesFor v room) (cc)
+  as-values FoundNodes m e =
+      ap (λ (o : Option (List (List ℕ))). bytesForLent (foundNodes (a .total)) o room) same ∙ ap (λ (v : Message). bytesFor v room) (cc)
+  as-values FindContent m e = ap (λ (v : Message). bytesFor v room) (cc)
+  as-values FoundContent m e =
+      ap (λ (o : Option (List (List ℕ))). bytesForLent (λ (rs : List (List ℕ)). foundContent (a .connection) rs (partOf s a)) o room) same
+      ∙ ap (λ (v : Message). bytesFor v room) (cc)
+  as-values Offer m e = ap (λ (v : Message). bytesFor v room) (cc)
+  as-values Accept m e = ap (λ (v : Message). bytesFor v room) (cc)
+  as-values Store m e = ap (λ (v : Message). bytesFor v room) (cc)
+  as-values (Refused why) m e = given-not (saysOf why) m e
+
+-- so every answer that reading gives, if it accepts, is written again by the call of its kind as the bytes that were read
+pub read-back : (s : List ℕ) → Bytes s → (a : Reading) → ReadTo (decode s) s a → a .count ≤ length (a .starts) → a .count ≤ length (a .lens)
+    → (m : Message) → readingOf s a ≡ given m → (room : ℕ) → length s ≤ room → rewritten s a room ≡ given s
+read-back s are a r h g m e room fits =
+    as-values s a (lent-first s (a .starts) (a .lens) (a .count) h g (r .inside .records)) room (a .kind) m e
+    ∙ read-rewritten s are a r m e room fits

@@ -1,7 +1,6 @@
 -- What the rules and the bytes of each message without records come to, by the tests of the code. Assumes nothing.
 use Prim.Native.Nat.{ℕ, _+_, _≤_, _<_}
-use native.Mathlib.Omega.{arith}
-use mathlib.Core.Path.{_≡_, sym, ap₂}
+use mathlib.Core.Path.{_≡_, sym, ap₂, _∙_}
 use mathlib.Core.Bool.{Bool, true, false, not}
 use mathlib.Core.List.{List, [], _∷_, _++_, reverse}
 use lib.Dec.{eqb}
@@ -9,26 +8,33 @@ use lib.ListN.{length}
 use borrow.Author.Tests.{le-leb, lt-leb, eq-eqb, ne-eqb, not-true, not-false}
 use Rattle.refusal.specs.Says.{Said}
 use Rattle.refusal.specs.Outcome.{given, refusal, refused}
-use Rattle.octets.specs.Bytes.{leBytes}
 use Rattle.content_key.specs.Key.{keyOf}
 use Rattle.message.specs.Values.{findNode, store}
 use Rattle.message.specs.Encode.{offset, encode}
 use Rattle.message.specs.Rules.{one, present, connected, allDifferent, rulesOf}
-use Rattle.message_write.specs.Kinds.{probeOf, keyMessageOf}
+use Rattle.refusal.specs.Buffer.{Writes}
+use Rattle.refusal.specs.declared.Wrote.{Wrote}
+use Rattle.message_write.specs.Kinds.{probeOf, keyMessageOf, probeType, keyType}
 use Rattle.message_write.specs.Write.{fitting, bytesFor}
-use Rattle.message_write.specs.Parts.{probeType, keyType, thingsOf}
+use Rattle.message_write.specs.Parts.{TwoWritten}
+use Rattle.message_rules.specs.Things.{thingsOf}
+use Rattle.message_rules.proofs.Present.{things-two}
+use Rattle.message_write.proofs.Answers.{writes-as}
 use Rattle.message_write.specs.declared.Probe.{Probe}
 use Rattle.message_write.specs.declared.Probe.the-variants.{Ping, Pong}
 use Rattle.message_write.specs.declared.KeyMessage.{KeyMessage}
 use Rattle.message_write.specs.declared.KeyMessage.the-variants.{FindContent, Offer, Accept}
-use Rattle.message_write.proofs.Lists.{present-length}
 
 -- Ping and Pong
-pub probe-good : (kind : Probe) (radius : List ℕ) (room t : ℕ) (rest : List ℕ) → t ≡ probeType kind → rest ≡ reverse radius
-    → bytesFor (probeOf kind radius) room ≡ fitting (t ∷ rest) room
+probe-good : (kind : Probe) (radius : List ℕ) (room : ℕ) (head rest : List ℕ) → head ≡ probeType kind ∷ [] → rest ≡ reverse radius
+    → bytesFor (probeOf kind radius) room ≡ fitting (head ++ rest) room
 unfolding rulesOf encode
-probe-good Ping radius room t rest e f = ap₂ (λ (k : ℕ) (l : List ℕ). fitting (k ∷ l) room) (sym e) (sym f)
-probe-good Pong radius room t rest e f = ap₂ (λ (k : ℕ) (l : List ℕ). fitting (k ∷ l) room) (sym e) (sym f)
+probe-good Ping radius room head rest e f = ap₂ (λ (k l : List ℕ). fitting (k ++ l) room) (sym e) (sym f)
+probe-good Pong radius room head rest e f = ap₂ (λ (k l : List ℕ). fitting (k ++ l) room) (sym e) (sym f)
+
+pub probe-writes : (kind : Probe) (radius : List ℕ) {head rest d a : List ℕ} {r : Wrote} → TwoWritten head rest r d a
+    → head ≡ probeType kind ∷ [] → rest ≡ reverse radius → Writes (bytesFor (probeOf kind radius) (length d)) r d a
+probe-writes kind radius {head} {rest} {d} w e f = writes-as (w .writes) (probe-good kind radius (length d) head rest e f)
 
 -- FindNode
 module _ (ds : List ℕ) (room : ℕ) where
@@ -41,9 +47,10 @@ module _ (ds : List ℕ) (room : ℕ) where
     unfolding rulesOf
     distances-equal e = rw (le-leb (length ds) 256 few, ← is, not-true t e)
 
-    pub distances-good : not t ≡ false → bytesFor (findNode ds) room ≡ fitting ((3 ∷ 4 ∷ 0 ∷ 0 ∷ 0 ∷ []) ++ ds) room
-    unfolding rulesOf encode leBytes
-    distances-good e = rw (le-leb (length ds) 256 few, ← is, not-false t e)
+    pub distances-good : not t ≡ false → (head : List ℕ) (k : ℕ) → head ≡ k ∷ offset 4 → k ≡ 3
+        → bytesFor (findNode ds) room ≡ fitting (head ++ ds) room
+    unfolding rulesOf encode
+    distances-good e head k h q = rw (le-leb (length ds) 256 few, ← is, not-false t e, h, q)
 
 -- FindContent, Offer, Accept
 pub key-bad : (kind : KeyMessage) (key : List ℕ) (room : ℕ) (says : Said) → refusal says ≡ keyOf key → bytesFor (keyMessageOf kind key) room ≡ refusal says
@@ -52,18 +59,17 @@ key-bad FindContent key room says e = rw (← e)
 key-bad Offer key room says e = rw (← e)
 key-bad Accept key room says e = rw (← e)
 
-pub key-good : (kind : KeyMessage) (key : List ℕ) (room : ℕ) (k : List ℕ) → given k ≡ keyOf key → (t : ℕ) → t ≡ keyType kind
-    → bytesFor (keyMessageOf kind key) room ≡ fitting ((t ∷ 4 ∷ 0 ∷ 0 ∷ 0 ∷ []) ++ key) room
-unfolding rulesOf encode leBytes
-key-good FindContent key room k e t is = rw (← e, is)
-key-good Offer key room k e t is = rw (← e, is)
-key-good Accept key room k e t is = rw (← e, is)
+pub key-good : (kind : KeyMessage) (key : List ℕ) (room : ℕ) (k : List ℕ) → given k ≡ keyOf key
+    → (head : List ℕ) (t : ℕ) → head ≡ t ∷ offset 4 → t ≡ keyType kind → bytesFor (keyMessageOf kind key) room ≡ fitting (head ++ key) room
+unfolding rulesOf encode
+key-good FindContent key room k e head t h q = rw (← e, h, q)
+key-good Offer key room k e head t h q = rw (← e, h, q)
+key-good Accept key room k e head t h q = rw (← e, h, q)
 
 -- Store
 module _ (connection content : List ℕ) (room n : ℕ) (is : n ≡ thingsOf connection 0 (length content)) where
   counted : one (connected connection) + one (present content) ≡ n
-  unfolding thingsOf
-  counted = rw (present-length content) (omega arith)
+  counted = things-two connection content ∙ sym is
 
   pub store-bad : (n ≡ 1 → ⊥) → bytesFor (store connection content) room ≡ refused 6
   unfolding rulesOf

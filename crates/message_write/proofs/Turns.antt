@@ -6,6 +6,7 @@ use native.Mathlib.Omega.{arith}
 use mathlib.Core.Path.{_≡_, refl, sym, ap, ap₂, subst, _∙_}
 use mathlib.Core.List.{List, [], _∷_, _++_, append-assoc, append-nil}
 use lib.ListN.{length, getD, length-append}
+use Rattle.octets.specs.Buffer.{placed}
 use Rattle.octets.proofs.Numbers.{leBytes-length}
 use Rattle.message.specs.Encode.{offset, offsetsFrom, joined, listBytes}
 use Rattle.message.specs.Reading.{partAt, recordsAt}
@@ -13,7 +14,7 @@ use Rattle.message_rules.specs.Good.{Places}
 use Rattle.message_rules.proofs.Places.{part-length, records-length}
 use Rattle.message_write.specs.Parts.{Put, sumTo, offsetsTo}
 use Rattle.message_write.proofs.Lists.{sum-none, sum-more, sum-rise}
-use Rattle.message_write.proofs.Puts.{put-none, put-more}
+use Rattle.message_write.proofs.Puts.{put-placed, put-none, put-more}
 
 -- one record more
 offsets-more : (first : ℕ) (lens : List ℕ) (i : ℕ) → offsetsTo first lens (i + 1) ≡ offsetsTo first lens i ++ offset (first + sumTo lens i)
@@ -47,9 +48,9 @@ pub record Offsets (lens : List ℕ) (count at : ℕ) (d out : List ℕ) (next i
   pub to : next ≡ 4 * count + sumTo lens i
 
 module _ (lens : List ℕ) (count at : ℕ) (d : List ℕ) where
-  pub offsets-start : count ≤ 32 → at + (4 * count + sumTo lens count) ≤ length d → Offsets lens count at d d (4 * count) 0
+  pub offsets-start : (next : ℕ) → next ≡ 4 * count → count ≤ 32 → at + (4 * count + sumTo lens count) ≤ length d → Offsets lens count at d d next 0
   unfolding offsetsTo
-  offsets-start few room =
+  offsets-start next first few room =
       record {
         turn = omega arith;
         few = few;
@@ -67,10 +68,13 @@ module _ (lens : List ℕ) (count at : ℕ) (d : List ℕ) where
         let more = sum-more lens i in
         (omega arith, omega arith)
 
-    pub offsets-next : i < count → (four a : List ℕ) → four ≡ offset next → Put out (at + 4 * i) four a
-        → Offsets lens count at d a (next + getD lens i 0) (i + 1)
-    offsets-next h four a is p =
-        let q = put-more d at (offsetsTo (4 * count) lens i) out (o .put) (at + 4 * i) (omega (arith, offsets-size (4 * count) lens i)) four a p in
+    pub offsets-next : i < count → (four a : List ℕ) (to : ℕ) → four ≡ offset next → a ≡ placed out to four → to ≡ at + 4 * i
+        → (after : ℕ) → after ≡ next + getD lens i 0 → Offsets lens count at d a after (i + 1)
+    offsets-next h four a to is as-placed there after more =
+        let size : length four ≡ 4 = ap length is ∙ leBytes-length 4 next in
+        let room = offsets-fit h .0 in
+        let p = put-placed out to four a (omega (arith, o .same)) as-placed in
+        let q = put-more d at (offsetsTo (4 * count) lens i) out (o .put) to (omega (arith, offsets-size (4 * count) lens i)) four a p in
         record {
           turn = omega arith;
           few = o .few;
@@ -111,9 +115,9 @@ pub record Records (s starts lens : List ℕ) (count at : ℕ) (d out : List ℕ
   pub to : next ≡ at + sumTo lens i
 
 module _ (s starts lens : List ℕ) (count at : ℕ) (d : List ℕ) where
-  pub records-start : Places s starts lens count → at + sumTo lens count ≤ length d → Records s starts lens count at d d at 0
+  pub records-start : (next : ℕ) → next ≡ at → Places s starts lens count → at + sumTo lens count ≤ length d → Records s starts lens count at d d next 0
   unfolding recordsAt joined
-  records-start p room =
+  records-start next first p room =
       record {
         turn = omega arith;
         places = p;
@@ -131,12 +135,15 @@ module _ (s starts lens : List ℕ) (count at : ℕ) (d : List ℕ) where
         let more = sum-more lens i in
         (omega arith, o .places .inside i h)
 
-    pub records-next : i < count → (r a : List ℕ) → r ≡ partAt s (getD starts i 0) (getD lens i 0) → Put out next r a
-        → Records s starts lens count at d a (next + getD lens i 0) (i + 1)
-    records-next h r a is p =
+    pub records-next : i < count → (r a : List ℕ) (to : ℕ) → r ≡ partAt s (getD starts i 0) (getD lens i 0) → a ≡ placed out to r → to ≡ next
+        → (after : ℕ) → after ≡ next + getD lens i 0 → Records s starts lens count at d a after (i + 1)
+    records-next h r a to is as-placed there after more =
         let rs = recordsAt s starts lens i in
         let size = joined-size s starts lens count (o .places) i (omega arith) in
-        let q = put-more d at (joined rs) out (o .put) next (omega (arith, o .to)) r a p in
+        let long : length r ≡ getD lens i 0 = ap length is ∙ part-length s (getD starts i 0) (getD lens i 0) (o .places .inside i h) in
+        let room = records-fit h .0 in
+        let p = put-placed out to r a (omega (arith, o .same)) as-placed in
+        let q = put-more d at (joined rs) out (o .put) to (omega (arith, o .to)) r a p in
         record {
           turn = omega arith;
           places = o .places;

@@ -2,3 +2,4 @@ pub mod Kinds
 pub mod Lent
 pub mod Write
 pub mod Parts
+pub mod RoundTrips

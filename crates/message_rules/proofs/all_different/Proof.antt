@@ -36,7 +36,7 @@ returns : tie.Need-returns Inv-loop μ-loop
 returns c =
     let at = c .before .before .before .before in
     let s = at .before .before .args .bytes .now in
-    sym (at .loop .inv .1 ∙ fresh-bad (at .loop .seen) s (at .loop .i) (search needs) (c .before .wide .ensures .0) (c .if1 .taken))
+    sym (at .loop .inv .1 ∙ fresh-bad (at .loop .seen) s (at .loop .i) (search needs) {b = c .before .wide .result} (omega arith) (c .if1 .taken))
 
 array-write-seen : tie.Need-array-write-seen Inv-loop μ-loop
 array-write-seen c = search needs
@@ -51,7 +51,7 @@ loop-again : tie.Need-loop-again Inv-loop μ-loop
 loop-again c =
     let at = c .before .before .before .before in
     let s = at .before .before .args .bytes .now in
-    (search needs, at .loop .inv .1 ∙ fresh-next (at .loop .seen) s (at .loop .i) (search needs) (c .before .wide .ensures .0) (c .if1 .left))
+    (search needs, at .loop .inv .1 ∙ fresh-next (at .loop .seen) s (at .loop .i) (search needs) {b = c .before .wide .result} (omega arith) (c .if1 .left))
 
 returns-2 : tie.Need-returns-2 Inv-loop μ-loop
 returns-2 c =

@@ -1,5 +1,6 @@
 -- `message_rules::offset` meets its contract: four bytes from a place on stand for the same number where some are past the end. Assumes nothing.
-use mathlib.Core.Path.{ap, _∙_}
+use native.Mathlib.Omega.{arith}
+use mathlib.Core.Path.{ap}
 use borrow.Author.Needs.{needs}
 use Rattle.octets.specs.Bytes.{le}
 use Rattle.octets.proofs.Parts.{le-part}
@@ -17,7 +18,7 @@ returns : tie.Need-returns
 unfolding offsetOf
 returns c =
     let a = c .before .before .before .args in
-    (c .le4 .ensures .0 ∙ ap le (c .before .part4 .ensures) ∙ le-part 4 (a .at) (a .s .now), c .le4 .ensures .1)
+    (omega (arith, ap le (c .before .part4 .ensures), le-part 4 (a .at) (a .s .now)), c .le4 .ensures .1)
 
 pub offset-spec : {M : Type 1} → statement M
 offset-spec = tie.close (tie.spec part4-requires le4-requires returns)

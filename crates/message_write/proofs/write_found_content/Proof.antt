@@ -30,7 +30,7 @@ returns c =
     let a = at .before .before .before .before .before .before .args in
     refused-writes ItemRule (a .out .now)
     (content-bad (a .bytes .now) (a .starts .now) (a .lens .now) _ (at .lent-records .ensures) (a .connection) (a .content .now) (length (a .out .now))
-    _ (c .before .things .ensures) (told .enum-told .given .1) (c .if1 .taken))
+    (c .before .things .result) (omega (arith, c .before .things .ensures)) (told .enum-told .given .1) (omega arith))
 
 list-size-requires : tie.Need-list-size-requires
 list-size-requires c κs =
@@ -67,16 +67,17 @@ same-length c = search needs
 
 returns-3 : tie.Need-returns-3
 returns-3 c =
-    let told = c .before .before .before .before .before .before .before .before .before .before .before .before .before .before in
+    let made = c .before .before .before .before .before .before .before in
+    let few = made .before .before .before .before .before in
+    let told = few .before .before in
     let at = told .before .before in
     let a = at .before .before .before .before .before .before .args in
     let l = at .lent-records .ensures in
-    let sized = c .before .before .before .before .before .before .before .before .list-size .ensures .0 in
-    writes-as
+    let sized = made .before .list-size .ensures .0 in
+    writes-as (c .before .before .write-list .ensures)
     (content-good (a .bytes .now) (a .starts .now) (a .lens .now) _ l (a .connection) (a .content .now) (length (a .out .now))
-    _ (c .before .before .before .before .before .before .before .before .before .before .before .before .before .things .ensures) (told .enum-told .given .1) (c .before .before .before .before .before .before .before .before .before .before .before .before .if1 .left)
-    _ (sized ∙ sym (list-size (a .bytes .now) _ _ _ (l .places))) _ (c .before .before .before .before .before .before .before .content-head .ensures))
-    (c .before .before .write-list .ensures)
+    (few .before .things .result) (omega (arith, few .before .things .ensures)) (told .enum-told .given .1) (omega (arith, few .if1 .left))
+    _ (sized ∙ sym (list-size (a .bytes .now) _ _ _ (l .places))) _ (made .content-head .ensures))
 
 pub write-found-content-spec : {M : Type 1} → statement M
 write-found-content-spec =

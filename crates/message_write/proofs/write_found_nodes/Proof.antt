@@ -1,5 +1,6 @@
 -- `message_write::write_found_nodes` meets its contract: the answer on the records that are lent decides, then the total (`proofs/Found.antt`); and the
 -- fixed part and the list are the message's bytes. Assumes nothing.
+use native.Mathlib.Omega.{arith}
 use lib.ListN.{length}
 use Rattle.refusal.specs.declared.Refusal.the-variants.{ItemRule}
 use Rattle.message_write.proofs.Answers.{refused-writes, writes-as}
@@ -23,7 +24,10 @@ returns c =
     let a = at .before .before .before .before .before .args in
     refused-writes ItemRule (a .out .now)
     (nodes-none (a .bytes .now) (a .starts .now) (a .lens .now) _ (at .lent-records .ensures) (a .total) (length (a .out .now))
-    (c .before .enum-told .given .1) (c .if1 .taken))
+    (c .before .enum-told .given .1) (omega arith))
+
+nodes-head-requires : tie.Need-nodes-head-requires
+nodes-head-requires c κs = search needs
 
 slice-aggregate-write-list : tie.Need-slice-aggregate-write-list
 slice-aggregate-write-list c = search needs
@@ -33,11 +37,11 @@ slice-aggregate-write-list-2 c = search needs
 
 write-list-requires : tie.Need-write-list-requires
 write-list-requires c κs =
-    let told = c .before .before .before .before .before .before .before .before in
+    let told = c .before .before .before .before .before .before .before .before .before in
     let at = told .before .before in
     let a = at .before .before .before .before .before .args in
     let l = at .lent-records .ensures in
-    (search needs, l .places, lent-small (a .bytes .now) (a .starts .now) (a .lens .now) _ l (told .enum-told .given .1))
+    (omega (arith, c .before .before .before .before .before .nodes-head), l .places, lent-small (a .bytes .now) (a .starts .now) (a .lens .now) _ l (told .enum-told .given .1))
 
 returns-2 : tie.Need-returns-2
 returns-2 c =
@@ -51,13 +55,14 @@ same-length c = search needs
 
 returns-3 : tie.Need-returns-3
 returns-3 c =
-    let told = c .before .before .before .before .before .before .before .before .before .before .before in
+    let made = c .before .before .before .before .before .before .before .before in
+    let some = made .before .before .before in
+    let told = some .before in
     let at = told .before .before in
     let a = at .before .before .before .before .before .args in
-    writes-as
+    writes-as (c .before .before .write-list .ensures)
     (nodes-good (a .bytes .now) (a .starts .now) (a .lens .now) _ (at .lent-records .ensures) (a .total) (length (a .out .now))
-    (told .enum-told .given .1) (c .before .before .before .before .before .before .before .before .before .before .if1 .left))
-    (c .before .before .write-list .ensures)
+    (told .enum-told .given .1) (omega (arith, some .if1 .left)) _ _ (made .nodes-head .ensures) (omega arith))
 
 pub write-found-nodes-spec : {M : Type 1} → statement M
 write-found-nodes-spec =
@@ -67,6 +72,7 @@ write-found-nodes-spec =
     enum-known-checked
     enum-told
     returns
+    nodes-head-requires
     slice-aggregate-write-list
     slice-aggregate-write-list-2
     write-list-requires

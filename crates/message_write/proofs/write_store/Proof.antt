@@ -1,5 +1,6 @@
 -- `message_write::write_store` meets its contract: exactly one thing is present, and the fixed part and the content are the message's bytes. Assumes
 -- nothing.
+use native.Mathlib.Omega.{arith}
 use lib.ListN.{length}
 use Rattle.refusal.specs.declared.Refusal.the-variants.{ItemRule}
 use Rattle.message_write.proofs.Answers.{refused-writes, writes-as}
@@ -16,7 +17,7 @@ returns c =
     let at = c .before in
     let a = at .before .before .before .args in
     refused-writes ItemRule (a .out .now)
-    (store-bad (a .connection) (a .content .now) (length (a .out .now)) _ (at .things .ensures) (c .if1 .taken))
+    (store-bad (a .connection) (a .content .now) (length (a .out .now)) (at .things .result) (omega (arith, at .things .ensures)) (λ e. omega arith))
 
 store-head-requires : tie.Need-store-head-requires
 store-head-requires c κs = search needs
@@ -35,9 +36,8 @@ returns-2 c =
     let made = c .before .before .before .before .before in
     let at = made .before .before in
     let a = at .before .before .before .args in
-    writes-as
-    (store-good (a .connection) (a .content .now) (length (a .out .now)) _ (at .things .ensures) (made .before .if1 .left) _ (made .store-head .ensures))
-    (c .before .before .write-two .ensures)
+    writes-as (c .before .before .write-two .ensures .writes)
+    (store-good (a .connection) (a .content .now) (length (a .out .now)) (at .things .result) (omega (arith, at .things .ensures)) (omega arith) _ (made .store-head .ensures))
 
 pub write-store-spec : {M : Type 1} → statement M
 write-store-spec =

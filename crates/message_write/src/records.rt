@@ -1,0 +1,82 @@
+// The records that the caller lends: bytes, with a start and a length for each record.
+ghost use Prim.Native.Nat.{_≤_};
+ghost use mathlib.Core.Path.{_≡_};
+ghost use lib.ListN.{length};
+ghost use Rattle.message_write.specs.Lent.{allWithin, padded, unlentOf, LentTo};
+use refusal::Checked;
+use refusal::Refusal;
+
+// The places of records that are lent, if they are accepted.
+pub(crate) struct Lent {
+    pub(crate) checked: Checked,
+    pub(crate) count: usize,
+    pub(crate) starts: [usize; 32],
+    pub(crate) lens: [usize; 32],
+}
+
+// The places of records that are lent: 4 for one that is not within the bytes, 5 for more than 32, 6 for a rule that they break.
+pub(crate) fn lent_records(bytes: &[u8], starts: &[usize], lens: &[usize]) -> Lent
+    ensures { λ r. ⌜ LentTo (now (bytes .entry)) (now (starts .entry)) (now (lens .entry)) r ⌝ }
+{
+    if !all_within(bytes, starts, lens) {
+        return unlent(Refusal::Layout);
+    }
+    let count = starts.len();
+    if 32 < count {
+        return unlent(Refusal::TooManyItems);
+    }
+    let begins = copied(starts);
+    let sizes = copied(lens);
+    if !message_rules::good_records(bytes, begins, sizes, count) {
+        return unlent(Refusal::ItemRule);
+    }
+    Lent {
+        checked: Checked::Accepted,
+        count,
+        starts: begins,
+        lens: sizes,
+    }
+}
+
+// No places, with a refusal.
+fn unlent(why: Refusal) -> Lent
+    ensures { λ r. ⌜ r ≡ unlentOf why ⌝ }
+{
+    Lent {
+        checked: Checked::Refused(why),
+        count: 0,
+        starts: [0usize; 32],
+        lens: [0usize; 32],
+    }
+}
+
+// As many starts as lengths, and every place within the bytes, also past the 32nd. No sum is made: it could wrap.
+fn all_within(bytes: &[u8], starts: &[usize], lens: &[usize]) -> bool
+    ensures { λ r. ⌜ r ≡ allWithin (now (bytes .entry)) (now (starts .entry)) (now (lens .entry)) ⌝ }
+{
+    if starts.len() != lens.len() {
+        return false;
+    }
+    let all = starts.len();
+    for i in 0..all {
+        if bytes.len() < starts[i] {
+            return false;
+        }
+        if bytes.len() - starts[i] < lens[i] {
+            return false;
+        }
+    }
+    true
+}
+
+// At most 32 places, in an array.
+fn copied(places: &[usize]) -> [usize; 32]
+    requires { ⌜ length (now places) ≤ 32 ⌝ }
+    ensures { λ r. ⌜ r ≡ padded (now (places .entry)) ⌝ }
+{
+    let mut to = [0usize; 32];
+    for i in 0..places.len() {
+        to[i] = places[i];
+    }
+    to
+}

@@ -89,8 +89,9 @@ module _ (seen s : List ℕ) (i : ℕ) (h : i < length s) {b : ℕ} (e : b ≡ g
   pub fresh-bad : (getD seen b 0 ≡ 0 → ⊥) → fresh seen (drop i s) ≡ false
   fresh-bad t = fresh-here ∙ rw (ne-eqb (getD seen b 0) 0 t)
 
-  pub fresh-next : getD seen b 0 ≡ 0 → fresh seen (drop i s) ≡ fresh (set seen b 1) (drop (i + 1) s)
-  fresh-next t = fresh-here ∙ rw (eq-eqb (getD seen b 0) 0 t, add-one i)
+  pub fresh-next : getD seen b 0 ≡ 0 → {whole : Bool} → whole ≡ fresh seen (drop i s) → (next : List ℕ) → next ≡ set seen b 1
+      → whole ≡ fresh next (drop (i + 1) s)
+  fresh-next t e next is = e ∙ fresh-here ∙ rw (eq-eqb (getD seen b 0) 0 t, add-one i, is)
 
 -- at the end the pass has found nothing
 pub fresh-end : (seen s : List ℕ) (i : ℕ) → length s ≤ i → fresh seen (drop i s) ≡ true

@@ -88,9 +88,9 @@ module _ (s starts lens : List ℕ) (n : ℕ) where
           }
 
       -- they are equal: the search is over
-      pub pair-found : b ≡ true → not (allDifferent sameBytes records) ≡ true
-      pair-found e =
+      pub pair-found : b ≡ true → (found : Bool) → found ≡ true → found ≡ not (allDifferent sameBytes records)
+      pair-found e found told =
           let one : holds sameBytes (getD records i []) (drop (i + 1) records) ≡ true =
           r .left ∙ left-at records i j (omega arith) ∙ rw (compared ∙ e) in
           let two : allDifferent sameBytes records ≡ false = r .clear .rest ∙ rest-at records i (omega arith) ∙ rw one in
-          ap not two
+          told ∙ sym (ap not two)

@@ -50,8 +50,10 @@ loop-less c = search needs
 loop-again : tie.Need-loop-again Inv-loop μ-loop
 loop-again c =
     let at = c .before .before .before .before in
-    let s = at .before .before .args .bytes .now in
-    (search needs, at .loop .inv .1 ∙ fresh-next (at .loop .seen) s (at .loop .i) (search needs) {b = c .before .wide .result} (omega arith) (c .if1 .left))
+    let s = at .before .before .args .bytes .now in (
+      search needs,
+      fresh-next (at .loop .seen) s (at .loop .i) (search needs) {b = c .before .wide .result} (omega arith) (c .if1 .left) (at .loop .inv .1) _ (search needs),
+    )
 
 returns-2 : tie.Need-returns-2 Inv-loop μ-loop
 returns-2 c =

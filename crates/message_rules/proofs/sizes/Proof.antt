@@ -30,7 +30,7 @@ returns c =
     let at = c .before .before .before in
     let a = at .before .args in
     sym (at .loop .inv
-    ∙ size-low (a .lens .now) (a .count) (search needs) (at .loop .i) (search needs) (c .if1 .taken))
+    ∙ size-low (a .lens .now) (a .count) (search needs) (at .loop .i) (search needs) (search needs))
 
 mul-if2 : tie.Need-mul-if2 Inv-loop μ-loop
 mul-if2 c = search needs
@@ -43,7 +43,7 @@ returns-2 c =
     let at = c .before .before .before .before .before in
     let a = at .before .args in
     sym (at .loop .inv
-    ∙ size-high (a .lens .now) (a .count) (search needs) (at .loop .i) (search needs) (c .before .before .if1 .left) (c .if2 .taken))
+    ∙ size-high (a .lens .now) (a .count) (search needs) (at .loop .i) (search needs) (search needs) (search needs))
 
 add-i : tie.Need-add-i Inv-loop μ-loop
 add-i c = search needs
@@ -56,7 +56,7 @@ loop-again c =
     let at = c .before .before .before .before .before in
     let a = at .before .args in
     at .loop .inv
-    ∙ size-good (a .lens .now) (a .count) (search needs) (at .loop .i) (search needs) (c .before .before .if1 .left) (c .if2 .left)
+    ∙ size-good (a .lens .now) (a .count) (search needs) (at .loop .i) (search needs) (search needs) (search needs)
 
 returns-3 : tie.Need-returns-3 Inv-loop μ-loop
 returns-3 c =

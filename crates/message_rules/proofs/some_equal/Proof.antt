@@ -136,8 +136,7 @@ returns c = c .before .pairs .inv .0 ∙ clear-end _ _ _ _ _ (c .before .pairs .
 returns-2 : tie.Need-returns-2 Inv-loop μ-loop Inv-pairs μ-pairs
 returns-2 c =
     let at = c .before .before .before .before .before .before .before .before .before in
-    let found = pair-found _ _ _ _ _ _ (at .loop .inv .1) (search needs) _ (c .before .same .ensures) (c .if1 .taken) in
-    cc
+    pair-found _ _ _ _ _ _ (at .loop .inv .1) (search needs) _ (c .before .same .ensures) (c .if1 .taken) _ (search needs)
 
 pub some-equal-spec : {M : Type 1} → statement M
 some-equal-spec =

@@ -43,17 +43,7 @@ pub fn key(bytes: &[u8]) -> KeyAnswer
             key: [0u8; 9],
         };
     }
-    let key = [
-        bytes[0],
-        bytes[1],
-        bytes[2],
-        bytes[3],
-        bytes[4],
-        bytes[5],
-        bytes[6],
-        bytes[7],
-        bytes[8],
-    ];
+    let key = octets::part9(bytes, 0);
     KeyAnswer {
         checked: Checked::Accepted,
         key,

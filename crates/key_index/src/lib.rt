@@ -1,7 +1,6 @@
 // The key index: a node id, a radius cap and the keys held, nearest first, in a flat array.
 ghost use mathlib.Core.Path.{_≡_};
 ghost use Rattle.refusal.specs.Outcome.{outcome, orZeros};
-ghost use Rattle.octets.specs.Equal.{sameBytes};
 ghost use Rattle.distance.specs.Distance.{xorOf};
 ghost use Rattle.content_key.specs.Key.{keyId};
 ghost use Rattle.key_index.specs.View.{view, freshOf, chunks, keyAt};
@@ -134,7 +133,8 @@ pub fn find(keys: &[u8], count: usize, key: [u8; 9]) -> Place
         if whole <= i {
             return Place::Nothing;
         }
-        if same(key, key_at(keys, i)) {
+        let held = key_at(keys, i);
+        if octets::same(&key, &held) {
             return Place::At(i);
         }
     }
@@ -160,16 +160,4 @@ pub fn away(node: [u8; 32], key: [u8; 9]) -> [u8; 32]
     ensures { λ r. ⌜ r ≡ xorOf node (keyId key) ⌝ }
 {
     distance::xor(node, content_key::id(key))
-}
-
-// Whether two keys are equal byte for byte.
-fn same(a: [u8; 9], b: [u8; 9]) -> bool
-    ensures { λ r. ⌜ r ≡ sameBytes a b ⌝ }
-{
-    for i in 0..9 {
-        if a[i] != b[i] {
-            return false;
-        }
-    }
-    true
 }

@@ -8,7 +8,9 @@ use native.Mathlib.Decide.{decLt}
 use native.Mathlib.Numerals.{add-one}
 use native.Mathlib.Omega.{arith}
 use lib.ListN.{length, getD, take, drop, length-append, length-drop}
-use lib.Seq.{take-suc, take-add, getD-drop, take-at, drop-at, drop-drop, length-take-le, length-paste, paste}
+use lib.Seq.{take-suc, take-add, getD-drop, take-at, drop-at, drop-drop, length-take-le}
+use Rattle.octets.specs.Buffer.{placed}
+use Rattle.octets.proofs.Buffers.{placed-room}
 use Rattle.key_lines.specs.Lines.{lineOf, lineLength, printedFrom, begunBy}
 use Rattle.key_lines.specs.State.{Begun, Lists}
 use Rattle.key_lines.specs.declared.Line.{Line}
@@ -118,20 +120,21 @@ module _ (line₀ : Line) (input before : List ℕ) where
         -- the line is printed, and a new one begins
         pub ended : (room : written + 65 ≤ length before) (p : List ℕ) (n : ℕ) → length p ≡ 65 → n ≤ 65
             → ((text : List ℕ) → Begun next text → take n p ≡ lineOf text)
-            → (out′ : List ℕ) → out′ ≡ paste out written p n → (to : ℕ) → to ≡ written + n → (new : Line) → Begun new []
+            → (out′ : List ℕ) → out′ ≡ placed out written (take n p) → length out′ ≡ length out → (to : ℕ) → to ≡ written + n → (new : Line) → Begun new []
             → Through line₀ input before out′ new (end + 1) to
-        ended room p n lp ln says out′ is′ to sum new b′ =
+        ended room p n lp ln says out′ is′ long to sum new b′ =
+            let size : length (take n p) ≡ n = length-take-le n p (omega arith) in
             record {
               inside = omega arith;
               fits = omega arith;
               none = λ e. absurd (omega arith);
-              kept = ap length is′ ∙ length-paste out written p n (omega (arith, t .kept)) (omega arith) ∙ t .kept;
+              kept = long ∙ t .kept;
               begun = λ text b. subst (Begun new) (sym (begun-ended text)) b′;
               count = λ text b.
                   let so = says (begunBy text (take end input)) (grown .begun text b) in
                   let P = printedFrom text (take end input) in
                   let L = lineOf (begunBy text (take end input)) in
-                  omega (arith, grown .count text b, length-append P L, ap length (printed-ended text), length-take-le n p (omega arith), ap length so);
+                  omega (arith, grown .count text b, length-append P L, ap length (printed-ended text), size, ap length so);
               printed = λ text b.
                   let so = says (begunBy text (take end input)) (grown .begun text b) in
                   let P = printedFrom text (take end input) in
@@ -140,6 +143,8 @@ module _ (line₀ : Line) (input before : List ℕ) where
                   let rest : drop written out ≡ drop written before = ap (drop written) (grown .printed text b) ∙ drop-at P (drop written before) written w in
                   let tail : drop (written + n) out ≡ drop (written + n) before = sym (drop-drop n written out) ∙ ap (drop n) rest ∙ drop-drop n written before in
                   is′
+                  ∙ placed-room out written (take n p) (omega (arith, size, t .kept))
+                  ∙ ap (λ (k : ℕ). take written out ++ take n p ++ drop (written + k) out) size
                   ∙ ap₂ (λ (x y : List ℕ). x ++ y ++ drop (written + n) out) head so
                   ∙ ap₂ (λ (x y : List ℕ). x ++ y) (sym (printed-ended text)) (tail ∙ ap (λ (k : ℕ). drop k before) (sym sum));
             }

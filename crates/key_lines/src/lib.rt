@@ -7,7 +7,6 @@ ghost use mathlib.Core.Path.{_≡_};
 ghost use mathlib.Core.Bool.{_||_, not};
 ghost use mathlib.Core.List.{List, [], _++_};
 ghost use lib.ListN.{length, drop};
-ghost use lib.Seq.{paste};
 ghost use Rattle.refusal.specs.Says.{saysOf};
 ghost use Rattle.refusal.specs.Outcome.{given, refusal};
 ghost use Rattle.hex.specs.Digits.{valueOf, isDigit};
@@ -65,7 +64,10 @@ pub fn list(line: Line, input: &[u8], out: &mut [u8]) -> Listed
         at = end;
         if end < input.len() {
             let printed = finish(line);
-            written = put(printed, out, written);
+            let len = printed.len;
+            let text = printed.text;
+            octets::put(&text[..len], out, written);
+            written += len;
             line = fresh();
             at = end + 1;
         }
@@ -218,18 +220,4 @@ fn refusal_line(why: Refusal) -> Printed
     text[8] = 48 + n / 10;
     text[9] = 48 + n % 10;
     Printed { text, len: 11 }
-}
-
-// Copies what is printed into `out` from `at` on, and answers where it ends.
-fn put(printed: Printed, out: &mut [u8], at: usize) -> usize
-    requires { ⌜ (printed .len ≤ 65) × (at + printed .len ≤ length (now out)) ⌝ }
-    ensures { λ r. ⌜ r ≡ at + printed .len ⌝ }
-    ensures { λ r. ⌜ now (out .exit) ≡ paste (now (out .entry)) at (printed .text) (printed .len) ⌝ }
-{
-    let n = printed.len;
-    let text = printed.text;
-    for i in 0..n {
-        out[at + i] = text[i];
-    }
-    at + n
 }

@@ -4,9 +4,11 @@ use Prim.Native.Nat.{ℕ, suc, _+_, _-_, _*_, _≤_, _<_}
 use native.Mathlib.Nat.{suc-add}
 use native.Mathlib.Omega.{arith}
 use mathlib.Core.Path.{_≡_, sym, ap, ap₂, _∙_}
-use mathlib.Core.List.{List, _++_}
-use lib.ListN.{length, getD, set, take, drop, take-append-drop, List·getD-append}
+use mathlib.Core.List.{List, _++_, append-assoc}
+use lib.ListN.{length, getD, set, take, drop, take-append-drop, length-append, length-drop, List·getD-append}
 use lib.Seq.{take-suc, drop-cons, append-snoc, set-at, getD-take, take-take, take-append-le, drop-at, length-take-le}
+use Rattle.octets.specs.Buffer.{placed}
+use Rattle.octets.proofs.Buffers.{placed-room}
 use Rattle.key_store.specs.Move.{raisedBy, keyAtPlace}
 
 -- nothing is moved at first
@@ -51,18 +53,32 @@ raised-step b moved end j z h long e =
     ap₂ (λ (l : List ℕ) (x : ℕ). set l (i + 9) x) g (ap (λ (l : List ℕ). getD l i 0) g ∙ raised-at b end i (omega arith) long)
     ∙ step b end i (omega arith) long
 
+-- as many bytes
+raised-length : (b : List ℕ) (start end : ℕ) → start ≤ end → end + 9 ≤ length b → length (raisedBy start end b) ≡ length b
+unfolding raisedBy
+raised-length b start end h long =
+    let front = take (start + 9) b in
+    let middle = take (end - start) (drop start b) in
+    let l : length front ≡ start + 9 = length-take-le (start + 9) b (omega arith) in
+    let m : length middle ≡ end - start = length-take-le (end - start) (drop start b) (omega (arith, length-drop start b)) in
+    omega (arith, length-append front (middle ++ drop (end + 9) b), length-append middle (drop (end + 9) b), length-drop (end + 9) b)
+
 -- the bytes moved, and the key written in the gap
 pub moved : (b raised key : List ℕ) (from to : ℕ) → from ≤ to → 9 * suc to ≤ length b → raised ≡ raisedBy (from * 9) (to * 9) b
-    → take (from * 9) raised ++ (key ++ drop (from * 9 + 9) raised) ≡ keyAtPlace from to key b
+    → length key ≡ 9 → placed raised (from * 9) key ≡ keyAtPlace from to key b
 unfolding raisedBy keyAtPlace
-moved b raised key from to h long e =
+moved b raised key from to h long e nine =
     let s = from * 9 in
     let back = take (to * 9 - s) (drop s b) ++ drop (to * 9 + 9) b in
     let l = length-take-le (s + 9) b (omega arith) in
     let f : from * 9 ≡ 9 * from = omega arith in
     let g : to * 9 - from * 9 ≡ 9 * (to - from) = omega arith in
     let n : to * 9 + 9 ≡ 9 * suc to = omega arith in
-    ap (λ (r : List ℕ). take s r ++ (key ++ drop (s + 9) r)) e
+    let fits : s + length key ≤ length raised = omega (arith, nine, ap length e, raised-length b s (to * 9) (omega arith) (omega arith)) in
+    placed-room raised s key fits
+    ∙ append-assoc (take s raised) key (drop (s + length key) raised)
+    ∙ ap (λ (n : ℕ). take s raised ++ (key ++ drop (s + n) raised)) nine
+    ∙ ap (λ (r : List ℕ). take s r ++ (key ++ drop (s + 9) r)) e
     ∙ ap₂ (λ (x y : List ℕ). x ++ (key ++ y))
     (take-append-le s (take (s + 9) b) back (omega arith) ∙ take-take s (s + 9) b (omega arith))
     (drop-at (take (s + 9) b) back (s + 9) l)

@@ -2,9 +2,8 @@
 ghost use Prim.Native.Nat.{_+_, _*_, _≤_, _<_};
 ghost use mathlib.Core.Path.{_≡_};
 ghost use mathlib.Core.Bool.{true, false};
-ghost use mathlib.Core.List.{_++_};
 ghost use lib.Dec.{leb};
-ghost use lib.ListN.{length, take, drop, replicate};
+ghost use lib.ListN.{length, replicate};
 ghost use Rattle.refusal.specs.Says.{saysOf};
 ghost use Rattle.octets.specs.Bytes.{be};
 ghost use Rattle.distance.specs.Distance.{xorOf};
@@ -133,7 +132,8 @@ fn with_key(index: KeyIndex, count: usize, from: usize, to: usize, key: [u8; 9])
     ensures { λ r. ⌜ r ≡ withBytes index count (keyAtPlace from to key (index .keys)) ⌝ }
 {
     let old = index.keys;
-    let keys = written(raised(old, from * WIDTH, to * WIDTH), from * WIDTH, key);
+    let mut keys = raised(old, from * WIDTH, to * WIDTH);
+    octets::put(&key, &mut keys, from * WIDTH);
     replaced(index, count, keys)
 }
 
@@ -159,18 +159,6 @@ fn raised(keys: [u8; 2160], start: usize, end: usize) -> [u8; 2160]
         moved[j + 9] = moved[j];
     }
     moved
-}
-
-// The nine bytes of a key written at `start`.
-fn written(keys: [u8; 2160], start: usize, key: [u8; 9]) -> [u8; 2160]
-    requires { ⌜ start + 9 ≤ 2160 ⌝ }
-    ensures { λ r. ⌜ r ≡ take start keys ++ (key ++ drop (start + 9) keys) ⌝ }
-{
-    let mut bytes = keys;
-    for j in 0..9 {
-        bytes[start + j] = key[j];
-    }
-    bytes
 }
 
 // A refused call: the very index.

@@ -12,7 +12,7 @@ use lib.Seq.{length-take-le, getD-drop}
 use borrow.Author.Tests.{le-leb, eq-eqb, ne-eqb}
 use Rattle.octets.specs.Bytes.{be}
 use Rattle.octets.specs.Parts.{bytesAt}
-use Rattle.octets.proofs.Parts.{bytes-at-rest}
+use Rattle.octets.proofs.Parts.{bytes-at-part, bytes-at-rest}
 use Rattle.hex.specs.Digits.{bytesOf, allDigits}
 use Rattle.hex.specs.Buffer.{decodedTo, decodedOf, filled, filledOf}
 use Rattle.hex.specs.declared.Decoded.{Decoded}
@@ -168,23 +168,23 @@ module _ (text : List ℕ) (framed : Bool) (frame : List ℕ) (count : ℕ) (goo
           ap (λ (l : List ℕ). eqb (getD l 0 0) 1 && leb (getD l 65 0) 240) (read-is text frame (replicate 66 0) r q)
       go false q = refl
 
-  pub header-read : (node cap : List ℕ) → node ≡ take 32 (drop 1 frame) → cap ≡ take 32 (drop 33 frame)
+  pub header-read : length frame ≡ 66 → (node cap : List ℕ) → node ≡ bytesAt 32 1 frame → cap ≡ bytesAt 32 33 frame
       → ReadsHeader text (record { good = good; node = node; cap = cap; count = count })
-  header-read node cap n c =
+  header-read l node cap n c =
       record {
         tested = header-tested;
-        node-is = λ e. n ∙ ap (λ (l : List ℕ). take 32 (drop 1 l)) (header-frame e);
-        cap-is = λ e. c ∙ ap (λ (l : List ℕ). take 32 (drop 33 l)) (header-frame e);
+        node-is = λ e. n ∙ bytes-at-part 32 1 frame (omega arith) ∙ ap (λ (l : List ℕ). take 32 (drop 1 l)) (header-frame e);
+        cap-is = λ e. c ∙ bytes-at-part 32 33 frame (omega arith) ∙ ap (λ (l : List ℕ). take 32 (drop 33 l)) (header-frame e);
         count-is = λ e. w ∙ ap (λ (l : List ℕ). getD l 65 0) (header-frame e);
       }
 
 -- a key's line
-module _ (node cap : List ℕ) (first : Bool) (last text : List ℕ) (framed : Bool) (frame : List ℕ) (far : List ℕ) (keeps good : Bool)
+module _ (node cap : List ℕ) (first : Bool) (last text : List ℕ) (framed : Bool) (frame key far : List ℕ) (keeps good : Bool)
     (f : framed ≡ isFrame 10 text) (r : frame ≡ readInto text (replicate 10 0)) (n : length frame ≡ 10)
-    (is : far ≡ xorOf node (keyId (bytesAt 9 1 frame))) (p : keeps ≡ keyPasses (bytesAt 9 1 frame) far first last cap)
+    (read : key ≡ bytesAt 9 1 frame) (is : far ≡ xorOf node (keyId key)) (p : keeps ≡ keyPasses key far first last cap)
     (g : good ≡ (framed && eqb (getD frame 0 0) 2 && keeps)) where
-  key-of : isFrame 10 text ≡ true → bytesAt 9 1 frame ≡ keyIn text
-  key-of e = bytes-at-rest 9 1 frame (omega arith) ∙ ap (drop 1) (read-is text frame (replicate 10 0) r e)
+  key-of : isFrame 10 text ≡ true → key ≡ keyIn text
+  key-of e = read ∙ bytes-at-rest 9 1 frame (omega arith) ∙ ap (drop 1) (read-is text frame (replicate 10 0) r e)
 
   far-of : isFrame 10 text ≡ true → far ≡ xorOf node (keyId (keyIn text))
   far-of e = is ∙ ap (λ (k : List ℕ). xorOf node (keyId k)) (key-of e)
@@ -200,7 +200,7 @@ module _ (node cap : List ℕ) (first : Bool) (last text : List ℕ) (framed : B
       ∙ go (isFrame 10 text) refl
     where
       go : (b : Bool) → isFrame 10 text ≡ b
-          → (b && eqb (getD frame 0 0) 2 && keyPasses (bytesAt 9 1 frame) far first last cap)
+          → (b && eqb (getD frame 0 0) 2 && keyPasses key far first last cap)
           ≡ (b && eqb (getD (frameOf 10 text) 0 0) 2 && leb (selectorOf (keyIn text)) 1
           && leb (lowest first last) (awayFrom node (keyIn text)) && leb (awayFrom node (keyIn text)) (be cap))
       go true q =
@@ -208,13 +208,13 @@ module _ (node cap : List ℕ) (first : Bool) (last text : List ℕ) (framed : B
           let y = leb (selectorOf (keyIn text)) 1 in
           let z = leb (lowest first last) (awayFrom node (keyIn text)) in
           let w = leb (awayFrom node (keyIn text)) (be cap) in
-          ap (λ (l : List ℕ). eqb (getD l 0 0) 2 && keyPasses (bytesAt 9 1 frame) far first last cap) (read-is text frame (replicate 10 0) r q)
+          ap (λ (l : List ℕ). eqb (getD l 0 0) 2 && keyPasses key far first last cap) (read-is text frame (replicate 10 0) r q)
           ∙ ap₂ (λ (k d : List ℕ). x && keyPasses k d first last cap) (key-of q) (far-of q)
           ∙ sym (and-assoc x (y && z) w)
           ∙ ap (λ (b : Bool). b && w) (sym (and-assoc x y z))
       go false q = refl
 
-  pub key-read : ReadsKey node cap first last text (record { good = good; key = bytesAt 9 1 frame; far = far })
+  pub key-read : ReadsKey node cap first last text (record { good = good; key = key; far = far })
   key-read =
       record {
         tested = key-tested;

@@ -8,8 +8,10 @@ use mathlib.Core.Bool.{Bool, true, false, cond}
 use mathlib.Core.List.{List, [], _∷_, _++_, append-nil, append-assoc}
 use lib.Dec.{eqb, eqb·suc-zero}
 use lib.ListN.{length, take, drop, length-drop, drop-of-length-le}
-use lib.Seq.{append-snoc, take-at, drop-at, drop-drop, take-all, length-take-le, paste, length-paste}
+use lib.Seq.{append-snoc, take-at, drop-at, drop-drop, length-take-le}
 use Rattle.octets.specs.Bytes.{be}
+use Rattle.octets.specs.Buffer.{placed}
+use Rattle.octets.proofs.Buffers.{placed-room}
 use borrow.Author.Tests.{eq-eqb, ne-eqb}
 use Rattle.refusal.specs.declared.Checked.the-variants.{Refused}
 use Rattle.refusal.specs.Says.{only, atLine}
@@ -82,13 +84,14 @@ first-good text h r e keys last size =
 
 -- a key put at place i comes after those before it
 put-more : (keys key : List ℕ) (i : ℕ) → length key ≡ 9 → 9 * i + 9 ≤ length keys
-    → chunks (i + 1) (paste keys (9 * i) key 9) ≡ chunks i keys ++ (key ∷ [])
+    → chunks (i + 1) (placed keys (9 * i) key) ≡ chunks i keys ++ (key ∷ [])
 put-more keys key i n h =
-    let b : List ℕ = paste keys (9 * i) key 9 in
+    let b : List ℕ = placed keys (9 * i) key in
     let front : length (take (9 * i) keys) ≡ 9 * i = length-take-le (9 * i) keys (omega arith) in
     let parts : b ≡ take (9 * i) keys ++ (key ++ drop (9 * i + 9) keys) =
-    append-assoc (take (9 * i) keys) (take 9 key) (drop (9 * i + 9) keys)
-    ∙ ap (λ (k : List ℕ). take (9 * i) keys ++ (k ++ drop (9 * i + 9) keys)) (take-all 9 key (omega arith)) in
+    placed-room keys (9 * i) key (omega arith)
+    ∙ append-assoc (take (9 * i) keys) key (drop (9 * i + length key) keys)
+    ∙ ap (λ (k : ℕ). take (9 * i) keys ++ (key ++ drop (9 * i + k) keys)) n in
     ap (λ (k : ℕ). chunks k b) (add-one i)
     ∙ chunks-more i b
     ∙ ap₂ (λ (l : List (List ℕ)) (k : List ℕ). l ++ (k ∷ []))
@@ -165,9 +168,9 @@ module _ (text node cap : List ℕ) (count : ℕ) (keys last : List ℕ) (i : �
         ∙ ap (λ (b : Bool). cond b (before (keyIn rest) (keysOf node cap (suc (i + 2)) (suc (awayFrom node (keyIn rest))) (count - suc i) (afterFrame 10 rest))) (badLine (i + 2))) e)
 
     -- it is good, and its key is put at its place
-    pub line-good : line .good ≡ true → (next : List ℕ) → next ≡ paste keys (9 * i) (line .key) 9
+    pub line-good : line .good ≡ true → (next : List ℕ) → next ≡ placed keys (9 * i) (line .key) → length next ≡ 2160
         → Through text node cap count next (line .far) (i + 1)
-    line-good e next p =
+    line-good e next p long =
         let rest = drop (133 + 21 * i) text in
         let facts = key-facts node (be cap) (lowest (eqb i 0) last) rest (sym tested ∙ e) in
         let inside = framed 10 rest (facts .frame) .inside in
@@ -188,7 +191,7 @@ module _ (text node cap : List ℕ) (count : ℕ) (keys last : List ℕ) (i : �
           inside = omega arith;
           few = few;
           fits = fits;
-          size = ap length p ∙ length-paste keys (9 * i) (line .key) 9 room (omega arith) ∙ size;
+          size = long;
           same = t .same
               ∙ ap (onto (chunks i keys))
               (split

@@ -15,6 +15,7 @@ use Rattle.refusal.specs.declared.Refusal.the-variants.{BadIndex, ShortBuffer}
 use Rattle.refusal.specs.declared.Wrote.the-variants.{Bytes, Refused}
 use Rattle.hex.specs.Digits.{textOf}
 use Rattle.octets.specs.Buffer.{placed}
+use Rattle.octets.proofs.Buffers.{placed-room}
 use Rattle.hex.specs.Buffer.{encodedTo}
 use Rattle.hex.proofs.Texts.{length-text, text-append}
 use Rattle.key_index.specs.View.{View, chunks, keyAt}
@@ -30,14 +31,6 @@ use Rattle.snapshot.proofs.RoundTrip.{sized-length, head-size}
 pub record Written (d a : List ℕ) (at : ℕ) (out : List ℕ) : Type 0 where
   pub ends : length a ≡ at
   pub is : out ≡ a ++ drop at d
-
--- what is placed where it has room
-placed-is : (out : List ℕ) (at : ℕ) (t : List ℕ) → at + length t ≤ length out
-    → placed out at t ≡ take at out ++ t ++ drop (at + length t) out
-placed-is out at t h =
-    let m : at ≤ length out = omega arith in
-    let n : length t ≤ length out - at = omega arith in
-    simp (le-leb at (length out) m, le-leb (length t) (length out - at) n)
 
 -- before the first piece
 pub begin : (d : List ℕ) (at : ℕ) → at ≤ length d → Written d (take at d) at d
@@ -58,7 +51,7 @@ module _ {d a : List ℕ} {at : ℕ} {out : List ℕ} (w : Written d a at out) w
       record {
         ends = omega (arith, length-append a t);
         is = p
-            ∙ placed-is out at t (omega arith)
+            ∙ placed-room out at t (omega arith)
             ∙ ap₂ (λ (x y : List ℕ). x ++ t ++ y) (ap (take at) (w .is) ∙ take-at a (drop at d) at e)
             (ap (λ (j : ℕ). drop j out) past
             ∙ ap (drop (length a + n)) (w .is)
@@ -87,7 +80,7 @@ whole : {d a : List ℕ} {at : ℕ} (line : List ℕ) {n : ℕ} {out : List ℕ}
 whole {d} {a} {at} line w e k h =
     let same : at + length line ≤ length d = omega arith in
     record {
-      is = w .is ∙ ap₂ (λ (x : List ℕ) (j : ℕ). x ++ drop (at + j) d) e (sym k) ∙ sym (placed-is d at line same);
+      is = w .is ∙ ap₂ (λ (x : List ℕ) (j : ℕ). x ++ drop (at + j) d) e (sym k) ∙ sym (placed-room d at line same);
       long = same-long w h;
     }
 

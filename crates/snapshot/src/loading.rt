@@ -1,10 +1,9 @@
 // Reading a saved text: the first line, a line for each key, the end.
-ghost use Prim.Native.Nat.{_+_, _*_, _≤_};
+ghost use Prim.Native.Nat.{_≤_};
 ghost use mathlib.Core.Path.{_≡_};
 ghost use mathlib.Core.Bool.{_&&_};
 ghost use lib.Dec.{leb, eqb};
-ghost use lib.ListN.{length, take, drop};
-ghost use lib.Seq.{paste};
+ghost use lib.ListN.{length, drop};
 ghost use Rattle.octets.specs.Bytes.{be};
 ghost use Rattle.snapshot.specs.Load.{loadOf, isFrame};
 ghost use Rattle.snapshot.specs.Calls.{reloadFor, reloadedBy, meaningOf};
@@ -68,7 +67,7 @@ fn load(index: KeyIndex, text: &[u8]) -> ReloadAnswer
         }
         let key = line.key;
         let far = line.far;
-        put_key(&mut keys, i, key);
+        octets::put(&key, &mut keys, WIDTH * i);
         last = far;
     }
     if text.len() != FIRST + LINE * count {
@@ -98,9 +97,9 @@ fn header_in(text: &[u8]) -> Header
 {
     let mut frame = [0u8; 66];
     let framed = read_frame(text, 0, &mut frame);
-    let node = part(&frame, 1);
-    let cap = part(&frame, 33);
-    let count = wide(frame[65]);
+    let node = octets::part32(&frame, 1);
+    let cap = octets::part32(&frame, 33);
+    let count = octets::wide(frame[65]);
     let good = passes(framed, frame[0], 1, count <= LIMIT);
     Header {
         good,
@@ -124,17 +123,7 @@ fn key_line(
 {
     let mut frame = [0u8; 10];
     let framed = read_frame(text, at, &mut frame);
-    let key = [
-        frame[1],
-        frame[2],
-        frame[3],
-        frame[4],
-        frame[5],
-        frame[6],
-        frame[7],
-        frame[8],
-        frame[9],
-    ];
+    let key = octets::part9(&frame, 1);
     let far = key_index::away(node, key);
     let keeps = key_passes(key, far, first, last, cap);
     let good = passes(framed, frame[0], 2, keeps);
@@ -197,35 +186,5 @@ fn read_frame(text: &[u8], at: usize, frame: &mut [u8]) -> bool
         Decoded::Bytes(_) => true,
         Decoded::NotHex => false,
         Decoded::NoRoom => false,
-    }
-}
-
-// A byte as a larger number.
-fn wide(x: u8) -> usize
-    ensures { λ r. ⌜ r ≡ x ⌝ }
-{
-    x as usize
-}
-
-// 32 bytes of a frame.
-fn part(frame: &[u8], from: usize) -> [u8; 32]
-    requires { ⌜ from + 32 ≤ length (now frame) ⌝ }
-    ensures { λ r. ⌜ r ≡ take 32 (drop from (now (frame .entry))) ⌝ }
-{
-    let mut bytes = [0u8; 32];
-    for i in 0..32 {
-        bytes[i] = frame[from + i];
-    }
-    bytes
-}
-
-// Puts a key at its place in a flat array.
-fn put_key(keys: &mut [u8], i: usize, key: [u8; 9])
-    requires { ⌜ 9 * i + 9 ≤ length (now keys) ⌝ }
-    ensures { λ r. ⌜ now (keys .exit) ≡ paste (now (keys .entry)) (9 * i) key 9 ⌝ }
-{
-    let at = WIDTH * i;
-    for j in 0..WIDTH {
-        keys[at + j] = key[j];
     }
 }

@@ -1,4 +1,4 @@
--- `content_key::key` meets its contract: each test that led to a `return` is a case of `keyOf`, and nine bytes written out are the list.
+-- `content_key::key` meets its contract: each test that led to a `return` is a case of `keyOf`, and the nine bytes of a list of nine are the list.
 -- Assumes nothing.
 use borrow.Author.Needs.{needs}
 use denote.Ref.{now}
@@ -11,7 +11,7 @@ use Rattle.content_key.proofs.key.Tie as tie
 
 returns : tie.Need-returns
 returns c =
-    let e = key-length (now (c .before .args .bytes)) (c .if1 .taken) in
+    let e = key-length (now (c .before .before .args .bytes)) (c .if1 .taken) in
     (sym e, ap (orZeros 9) (sym e))
 
 shared-slice-read-if2 : tie.Need-shared-slice-read-if2
@@ -19,42 +19,18 @@ shared-slice-read-if2 c = search needs
 
 returns-2 : tie.Need-returns-2
 returns-2 c =
-    let e = key-selector (now (c .before .before .before .args .bytes)) (c .before .before .if1 .left) (c .if2 .taken) in
+    let e = key-selector (now (c .before .before .before .before .args .bytes)) (c .before .before .if1 .left) (c .if2 .taken) in
     (sym e, ap (orZeros 9) (sym e))
 
-shared-slice-read-t9 : tie.Need-shared-slice-read-t9
-shared-slice-read-t9 c = search needs
-
-shared-slice-read-t15 : tie.Need-shared-slice-read-t15
-shared-slice-read-t15 c = search needs
-
-shared-slice-read-t17 : tie.Need-shared-slice-read-t17
-shared-slice-read-t17 c = search needs
-
-shared-slice-read-t19 : tie.Need-shared-slice-read-t19
-shared-slice-read-t19 c = search needs
-
-shared-slice-read-t21 : tie.Need-shared-slice-read-t21
-shared-slice-read-t21 c = search needs
-
-shared-slice-read-t23 : tie.Need-shared-slice-read-t23
-shared-slice-read-t23 c = search needs
-
-shared-slice-read-t25 : tie.Need-shared-slice-read-t25
-shared-slice-read-t25 c = search needs
-
-shared-slice-read-t27 : tie.Need-shared-slice-read-t27
-shared-slice-read-t27 c = search needs
-
-shared-slice-read-t29 : tie.Need-shared-slice-read-t29
-shared-slice-read-t29 c = search needs
+part9-requires : tie.Need-part9-requires
+part9-requires c κs = search needs
 
 returns-3 : tie.Need-returns-3
 returns-3 c =
-    let s = c .before .before .before .before .before .before .before .before .before .before .before .before .args .bytes in
-    let n = c .before .before .before .before .before .before .before .before .before .before .before .if1 .left in
-    let e = key-given (now s) n (c .before .before .before .before .before .before .before .before .before .if2 .left) in
-    let l = bytes-at-all 9 (now s) n in
+    let s = now (c .before .before .before .before .before .args .bytes) in
+    let n = c .before .before .before .if1 .left in
+    let e = key-given s n (c .before .if2 .left) in
+    let l = c .part9 .ensures ∙ bytes-at-all 9 s n in
     (ap given l ∙ sym e, l ∙ ap (orZeros 9) (sym e))
 
 pub key-spec : {M : Type 1} → statement M
@@ -64,13 +40,5 @@ key-spec =
     returns
     shared-slice-read-if2
     returns-2
-    shared-slice-read-t9
-    shared-slice-read-t15
-    shared-slice-read-t17
-    shared-slice-read-t19
-    shared-slice-read-t21
-    shared-slice-read-t23
-    shared-slice-read-t25
-    shared-slice-read-t27
-    shared-slice-read-t29
+    part9-requires
     returns-3)

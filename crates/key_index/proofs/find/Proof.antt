@@ -74,18 +74,18 @@ Inv-loop keys count key whole i₀ i = (i ≤ count) × (placeFrom 0 key (chunks
 abbrev μ-loop : tie.MeasureT-loop
 μ-loop keys count key whole i₀ i = count - i
 
-nine : (c : tie.Start Inv-loop μ-loop) → length (c .args .key) ≡ 9
+nine : (c : tie.Start Inv-loop μ-loop) → length (c .args .t3) ≡ 9
 nine c = search needs
 
 -- the loop's head, from where a turn has compared
 abbrev head : tie.After-same Inv-loop μ-loop → tie.At-loop Inv-loop μ-loop
-head c = c .before .before .before .before
+head c = c .before .before .before .before .before .before
 
 turn : (c : tie.After-same Inv-loop μ-loop)
-    → Turn (now (head c .before .before .args .keys)) (head c .before .before .args .count) (head c .before .before .args .key) (head c .loop .i)
-    (c .before .key-at .result) (c .same .result)
+    → Turn (now (head c .before .before .args .keys)) (head c .before .before .args .count) (head c .before .before .args .t3) (head c .loop .i)
+    (c .before .before .before .key-at .result) (c .same .result)
 turn c =
-    record { more = search needs; whole = search needs; read = c .before .key-at .ensures; is = c .same .ensures }
+    record { more = search needs; whole = search needs; read = c .before .before .before .key-at .ensures; is = c .same .ensures }
 
 loop-holds : tie.Need-loop-holds Inv-loop μ-loop
 loop-holds c = (search needs, start _ _ _)
@@ -97,6 +97,12 @@ returns c =
 
 key-at-requires : tie.Need-key-at-requires Inv-loop μ-loop
 key-at-requires c κs = search needs
+
+slice-aggregate-same : tie.Need-slice-aggregate-same Inv-loop μ-loop
+slice-aggregate-same c = search needs
+
+slice-aggregate-same-2 : tie.Need-slice-aggregate-same-2 Inv-loop μ-loop
+slice-aggregate-same-2 c = search needs
 
 same-requires : tie.Need-same-requires Inv-loop μ-loop
 same-requires c κs = search needs
@@ -127,6 +133,8 @@ find-spec =
     loop-holds
     returns
     key-at-requires
+    slice-aggregate-same
+    slice-aggregate-same-2
     same-requires
     returns-2
     add-i

@@ -2,6 +2,8 @@
 -- `grown` and, at a line feed, `ended` (`proofs/Turns.antt`). The measure is what is left of the input. Assumes nothing.
 use Prim.Native.Nat.{_-_}
 use native.Mathlib.Omega.{arith}
+use mathlib.Core.Path.{_≡_, refl, sym}
+use lib.Seq.{length-take-le}
 use lib.ListN.{length}
 use borrow.Author.Needs.{needs}
 use Rattle.key_lines.proofs.Answers.{padded-front}
@@ -42,8 +44,22 @@ feed-requires c κs = search needs
 finish-requires : tie.Need-finish-requires Inv-loop μ-loop
 finish-requires c κs = search needs
 
+array-share-prefix-text : tie.Need-array-share-prefix-text Inv-loop μ-loop
+array-share-prefix-text c =
+    let long : length (c .before .finish .result .text) ≡ 65 = search needs in
+    search needs
+
+slice-aggregate-put : tie.Need-slice-aggregate-put Inv-loop μ-loop
+slice-aggregate-put c =
+    let printed = c .before .before .finish in
+    let long : length (printed .result .text) ≡ 65 = search needs in
+    sym (length-take-le (printed .result .len) (printed .result .text) (omega (arith, printed .ensures .1)))
+
 put-requires : tie.Need-put-requires Inv-loop μ-loop
 put-requires c κs = search needs
+
+add-written : tie.Need-add-written Inv-loop μ-loop
+add-written c = search needs
 
 fresh-requires : tie.Need-fresh-requires Inv-loop μ-loop
 fresh-requires c κs = search needs
@@ -56,14 +72,13 @@ loop-less c = search needs
 
 loop-again : tie.Need-loop-again Inv-loop μ-loop
 loop-again c =
-    let fed = c .before .before .before .before .before .before .before in
-    let end = fed .before .before .line-end in
+    let fed = c .before .before .before .before .before .before .before .before .before in
     let at = fed .before .before .before .before .before in
-    let finished = c .before .before .before .before .before .finish in
-    let wrote = c .before .before .before .put in
-    ended _ _ _ _ _ _ _ (at .loop .inv) _ (end .ensures) _ (fed .feed .ensures) (c .before .before .before .before .before .before .if2 .taken)
+    let finished = c .before .before .before .before .before .before .before .finish in
+    ended _ _ _ _ _ _ _ (at .loop .inv) _ (fed .before .before .line-end .ensures) _ (fed .feed .ensures) (c .before .before .before .before .before .before .before .before .if2 .taken)
     (omega (arith, fed .before .before .before .if1 .left, at .loop .inv))
-    _ _ (search needs) (finished .ensures .1) (λ text b. padded-front _ _ (finished .ensures .0 text b)) _ (wrote .ensures .1) _ (wrote .ensures .0) _ (c .fresh .ensures)
+    (finished .result .text) (finished .result .len) (search needs) (finished .ensures .1) (λ text b. padded-front _ _ (finished .ensures .0 text b)) _
+    (c .before .before .before .put .ensures .1) (search needs) _ refl _ (c .fresh .ensures)
 
 loop-less-2 : tie.Need-loop-less-2 Inv-loop μ-loop
 loop-less-2 c = search needs
@@ -101,7 +116,10 @@ list-spec =
     part-feed-end
     feed-requires
     finish-requires
+    array-share-prefix-text
+    slice-aggregate-put
     put-requires
+    add-written
     fresh-requires
     add-at
     loop-less

@@ -11,17 +11,17 @@ slice-aggregate-read-frame c = search needs
 read-frame-requires : tie.Need-read-frame-requires
 read-frame-requires c κs = search needs
 
-slice-aggregate-part : tie.Need-slice-aggregate-part
-slice-aggregate-part c = search needs
+slice-aggregate-part32 : tie.Need-slice-aggregate-part32
+slice-aggregate-part32 c = search needs
 
-part-requires : tie.Need-part-requires
-part-requires c κs = search needs
+part32-requires : tie.Need-part32-requires
+part32-requires c κs = search needs
 
-slice-aggregate-part-2 : tie.Need-slice-aggregate-part-2
-slice-aggregate-part-2 c = search needs
+slice-aggregate-part32-2 : tie.Need-slice-aggregate-part32-2
+slice-aggregate-part32-2 c = search needs
 
-part-requires-2 : tie.Need-part-requires-2
-part-requires-2 c κs = search needs
+part32-requires-2 : tie.Need-part32-requires-2
+part32-requires-2 c κs = search needs
 
 array-read-wide : tie.Need-array-read-wide
 array-read-wide c = search needs
@@ -39,8 +39,8 @@ returns : tie.Need-returns
 returns c =
     let a = c .before .before .before .before .before .before .before .before .before .before .args in
     let read = c .before .before .before .before .before .before .before .read-frame in
-    header-read (a .text .now) _ _ _ _ (read .ensures .0) (read .ensures .1) (c .before .wide .ensures) (c .passes .ensures) _ _
-    (c .before .before .before .before .part .ensures) (c .before .before .part2 .ensures)
+    header-read (a .text .now) _ _ _ _ (read .ensures .0) (read .ensures .1) (c .before .wide .ensures .0) (c .passes .ensures) (search needs) _ _
+    (c .before .before .before .before .part32 .ensures) (c .before .before .part322 .ensures)
 
 pub header-in-spec : {M : Type 1} → statement M
 header-in-spec =
@@ -48,10 +48,10 @@ header-in-spec =
     (tie.spec
     slice-aggregate-read-frame
     read-frame-requires
-    slice-aggregate-part
-    part-requires
-    slice-aggregate-part-2
-    part-requires-2
+    slice-aggregate-part32
+    part32-requires
+    slice-aggregate-part32-2
+    part32-requires-2
     array-read-wide
     wide-requires
     array-read-passes

@@ -57,11 +57,17 @@ returns-2 c =
     (line-bad _ _ _ _ _ _ _ (at .loop .inv) (c .before .before .before .before .loop-test .taken) _ _ (c .before .before .before .key-line .ensures)
     (λ e. omega (arith, eqb-true)) (λ e. omega (arith, eqb-false)) (not-true _ (c .before .if2 .taken)))
 
-slice-aggregate-put-key : tie.Need-slice-aggregate-put-key Inv-loop μ-loop
-slice-aggregate-put-key c = search needs
+slice-aggregate-put : tie.Need-slice-aggregate-put Inv-loop μ-loop
+slice-aggregate-put c = search needs
 
-put-key-requires : tie.Need-put-key-requires Inv-loop μ-loop
-put-key-requires c κs = search needs
+slice-aggregate-put-2 : tie.Need-slice-aggregate-put-2 Inv-loop μ-loop
+slice-aggregate-put-2 c = search needs
+
+mul-put : tie.Need-mul-put Inv-loop μ-loop
+mul-put c = search needs
+
+put-requires : tie.Need-put-requires Inv-loop μ-loop
+put-requires c κs = search needs
 
 add-i : tie.Need-add-i Inv-loop μ-loop
 add-i c = search needs
@@ -71,10 +77,10 @@ loop-less c = search needs
 
 loop-again : tie.Need-loop-again Inv-loop μ-loop
 loop-again c =
-    let at = c .before .before .before .before .before .before .before .before .before in
-    line-good _ _ _ _ _ _ _ (at .loop .inv) (c .before .before .before .before .before .before .before .before .loop-test .taken) _ _ (c .before .before .before .before .before .before .before .key-line .ensures)
-    (λ e. omega (arith, eqb-true)) (λ e. omega (arith, eqb-false)) (not-false _ (c .before .before .before .before .before .if2 .left)) _
-    (c .before .put-key .ensures)
+    let at = c .before .before .before .before .before .before .before .before .before .before in
+    line-good _ _ _ _ _ _ _ (at .loop .inv) (c .before .before .before .before .before .before .before .before .before .loop-test .taken) _ _ (c .before .before .before .before .before .before .before .before .key-line .ensures)
+    (λ e. omega (arith, eqb-true)) (λ e. omega (arith, eqb-false)) (not-false _ (c .before .before .before .before .before .before .if2 .left)) _
+    (c .before .put .ensures .1) (search needs)
 
 mul-if3 : tie.Need-mul-if3 Inv-loop μ-loop
 mul-if3 c = search needs
@@ -119,8 +125,10 @@ load-spec =
     add-bad-line
     bad-line-requires-2
     returns-2
-    slice-aggregate-put-key
-    put-key-requires
+    slice-aggregate-put
+    slice-aggregate-put-2
+    mul-put
+    put-requires
     add-i
     loop-less
     loop-again

@@ -145,14 +145,10 @@ pub fn find(keys: &[u8], count: usize, key: [u8; 9]) -> Place
 pub fn key_at(keys: &[u8], i: usize) -> [u8; 9]
     ensures { λ r. ⌜ r ≡ keyAt (now (keys .entry)) i ⌝ }
 {
-    let mut key = [0u8; 9];
     if keys.len() / WIDTH <= i {
-        return key;
+        return [0u8; 9];
     }
-    for j in 0..WIDTH {
-        key[j] = keys[i * WIDTH + j];
-    }
-    key
+    octets::part9(keys, i * WIDTH)
 }
 
 // The distance of a key from a node, as 32 bytes.

@@ -1,47 +1,15 @@
 -- Reading has one answer: the bytes and the outcome that an answer stands for fix every field of it. Assumes nothing.
 use Prim.Native.Nat.{ℕ}
 use mathlib.Core.Path.{_≡_, refl, sym, ap, _∙_}
-use mathlib.Core.List.{List, [], _∷_}
-use lib.ListN.{getD}
-use Rattle.refusal.specs.Says.{Said, only, atLine, saysOf}
+use mathlib.Core.List.{List}
 use Rattle.refusal.specs.Outcome.{Outcome, given, refusal}
-use Rattle.refusal.specs.declared.Refusal.{Refusal}
-use Rattle.refusal.specs.declared.Refusal.the-variants.{BadIndex, EmptyMessage, LongMessage, MessageType, Layout, TooManyItems, ItemRule, KeyLength, KeySelector, Content, BeyondRadius, AlreadyHeld, NotHeld, ShortBuffer, BadSnapshot, NotHex}
+use Rattle.refusal.proofs.Says.{refusalOf, said-by}
 use Rattle.message.specs.Values.{Message, ping, pong, findNode, foundNodes, findContent, foundContent, offer, accept, store}
 use Rattle.message.specs.Report.{reportOf}
 use Rattle.message.specs.Reading.{valuesOf, ReadTo}
 use Rattle.message.specs.declared.Kind.{Kind}
 use Rattle.message.specs.declared.Kind.the-variants.{Ping, Pong, FindNode, FoundNodes, FindContent, FoundContent, Offer, Accept, Store, Refused}
 use Rattle.message.specs.declared.Reading.{Reading}
-
--- the refusals without a line, by their numbers
-abbrev table : List Refusal
-table =
-    BadIndex ∷ EmptyMessage ∷ LongMessage ∷ MessageType ∷ Layout ∷ TooManyItems ∷ ItemRule ∷ KeyLength ∷ KeySelector ∷ Content
-    ∷ BeyondRadius ∷ AlreadyHeld ∷ NotHeld ∷ ShortBuffer ∷ []
-
--- the refusal that says something
-abbrev refusalOf : Said → Refusal
-refusalOf (only n) = getD table n NotHex
-refusalOf (atLine n line) = BadSnapshot line
-
-said-by : (why : Refusal) → refusalOf (saysOf why) ≡ why
-said-by BadIndex = refl
-said-by EmptyMessage = refl
-said-by LongMessage = refl
-said-by MessageType = refl
-said-by Layout = refl
-said-by TooManyItems = refl
-said-by ItemRule = refl
-said-by KeyLength = refl
-said-by KeySelector = refl
-said-by Content = refl
-said-by BeyondRadius = refl
-said-by AlreadyHeld = refl
-said-by NotHeld = refl
-said-by ShortBuffer = refl
-said-by (BadSnapshot line) = refl
-said-by NotHex = refl
 
 -- the kind of a message, and of what reading comes to
 abbrev kindOf : Message → Kind

@@ -6,3 +6,4 @@ pub mod Layouts
 pub mod Rules
 pub mod Messages
 pub mod Exact
+pub mod Reports

@@ -10,6 +10,7 @@ use lib.ListN.{length, getD, take, drop, set, replicate, length-append, length-d
 use lib.Seq.{drop-drop, drop-set-lt, getD-set-same, getD-set-other, getD-take, ext-getD, length-take-le, take-all, take-take}
 use borrow.Author.Count.{below-none, below-more}
 use Rattle.message.specs.Records.{offsetsOf, ordered, between}
+use Rattle.message.proofs.Reports.{gaps-length}
 use Rattle.message.specs.Report.{in32, gaps, startsOf, lensOf}
 use Rattle.message.specs.Reading.{partAt, recordsAt}
 use Rattle.message.proofs.Records.{between-length, offsets-count}
@@ -81,12 +82,6 @@ map-at base (o ∷ os) end zero h = refl
 map-at base (o ∷ os) end (suc k) h = map-at base os end k (omega arith)
 
 -- each length is a difference of two offsets, the last one up to the end
-gaps-length : (end : ℕ) (os : List ℕ) → length (gaps end os) ≡ length os
-unfolding gaps
-gaps-length end [] = refl
-gaps-length end (a ∷ []) = refl
-gaps-length end (a ∷ b ∷ os) = ap suc (gaps-length end (b ∷ os))
-
 gaps-at : (end : ℕ) (os : List ℕ) (k : ℕ) → k < length os → getD (gaps end os) k 0 ≡ getD os (suc k) end - getD os k end
 unfolding gaps
 gaps-at end [] k h = absurd (omega arith)

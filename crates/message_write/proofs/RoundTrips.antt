@@ -5,7 +5,7 @@ use Prim.Native.Nat.{ℕ, _≤_, _<_}
 use native.Mathlib.Omega.{arith}
 use mathlib.Core.Path.{_≡_, refl, sym, ap, subst, _∙_}
 use mathlib.Core.Bool.{Bool, true, false, cond}
-use mathlib.Core.List.{List}
+use mathlib.Core.List.{List, _++_}
 use mathlib.Core.Option.{Option, some, none}
 use lib.Dec.{ltb}
 use lib.ListN.{length, take, drop, length-append}
@@ -13,7 +13,7 @@ use lib.Seq.{take-at}
 use borrow.Author.Tests.{le-ltb, ltb-false}
 use Rattle.refusal.specs.Says.{Said, only, saysOf}
 use Rattle.refusal.specs.Outcome.{Outcome, given, refusal, refused}
-use Rattle.refusal.specs.Buffer.{Writes}
+use Rattle.refusal.specs.Buffer.{wroteOf, counted, written, Writes}
 use Rattle.refusal.specs.declared.Wrote.{Wrote}
 use Rattle.octets.specs.Bytes.{Bytes}
 use Rattle.message.specs.Values.{Message, Sized, Formed, foundNodes, foundContent}
@@ -26,6 +26,7 @@ use Rattle.message.specs.declared.Kind.the-variants.{Ping, Pong, FindNode, Foun
 use Rattle.message.specs.declared.Reading.{Reading}
 use Rattle.message.proofs.Rules.{Judged, kept, broken, judged}
 use Rattle.message.proofs.Messages.{written-read, read-written, read-formed, read-short}
+use Rattle.message.proofs.Reports.{read-holds}
 use Rattle.message_write.specs.Lent.{lent}
 use Rattle.message_write.specs.Write.{ruledBytes, bytesFor, bytesForLent}
 use Rattle.message_write.specs.RoundTrips.{WrittenBack, LentBack, partOf, lentOf, rewrittenAs, rewritten}
@@ -126,8 +127,17 @@ module _ (s : List ℕ) (a : Reading) (same : lentOf s a ≡ some (recordsAt s (
   as-values (Refused why) m e = given-not (saysOf why) m e
 
 -- so every answer that reading gives, if it accepts, is written again by the call of its kind as the bytes that were read
-pub read-back : (s : List ℕ) → Bytes s → (a : Reading) → ReadTo (decode s) s a → a .count ≤ length (a .starts) → a .count ≤ length (a .lens)
-    → (m : Message) → readingOf s a ≡ given m → (room : ℕ) → length s ≤ room → rewritten s a room ≡ given s
-read-back s are a r h g m e room fits =
-    as-values s a (lent-first s (a .starts) (a .lens) (a .count) h g (r .inside .records)) room (a .kind) m e
+pub read-back : (s : List ℕ) → Bytes s → (a : Reading) → ReadTo (decode s) s a → (m : Message) → readingOf s a ≡ given m
+    → (room : ℕ) → length s ≤ room → rewritten s a room ≡ given s
+read-back s are a r m e room fits =
+    let h = read-holds r in
+    as-values s a (lent-first s (a .starts) (a .lens) (a .count) (h .0) (h .1) (r .inside .records)) room (a .kind) m e
     ∙ read-rewritten s are a r m e room fits
+
+-- that call answers how many they are, and leaves them at the start of the buffer
+pub rewrites : (s : List ℕ) → Bytes s → (a : Reading) → ReadTo (decode s) s a → (m : Message) → readingOf s a ≡ given m
+    → (before after : List ℕ) → length s ≤ length before → (answer : Wrote) → Writes (rewritten s a (length before)) answer before after
+    → (wroteOf answer ≡ given (length s)) × (after ≡ s ++ drop (length s) before)
+rewrites s are a r m e before after fits answer w =
+    let same = read-back s are a r m e (length before) fits in
+    (w .answered ∙ ap counted same, w .buffer ∙ ap (λ (o : Outcome (List ℕ)). written o before) same)

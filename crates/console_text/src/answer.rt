@@ -3,16 +3,11 @@
 use refusal::Refusal;
 
 pub fn text(out: &mut [u8], at: usize, text: &[u8]) -> usize {
-    if out.len() < at {
-        return at;
+    if octets::put(text, out, at) {
+        at + text.len()
+    } else {
+        at
     }
-    if out.len() - at < text.len() {
-        return at;
-    }
-    for i in 0..text.len() {
-        out[at + i] = text[i];
-    }
-    at + text.len()
 }
 
 pub fn digits(out: &mut [u8], at: usize, bytes: &[u8]) -> usize {

@@ -1,7 +1,6 @@
 -- What each way out of a function that writes answers and leaves: a refusal with the buffer as it was, or the bytes at its front. Assumes nothing.
 use Prim.Native.Nat.{ℕ, _≤_, _<_}
 use native.Mathlib.Nat.{zero-add}
-use native.Mathlib.Omega.{arith}
 use mathlib.Core.Path.{_≡_, refl, sym, ap, subst, _∙_}
 use mathlib.Core.Bool.{Bool, true, false, cond}
 use mathlib.Core.List.{List, _++_}
@@ -29,14 +28,14 @@ pub writes-as : {o o′ : Outcome (List ℕ)} {r : Wrote} {d a : List ℕ} → W
 writes-as {r = r} {d = d} {a = a} w e = subst (λ (k : Outcome (List ℕ)). Writes k r d a) (sym e) w
 
 -- the tests of the size
-pub size-long : (n room : ℕ) → 1280 < n → Refused LongMessage ≡ sizeWhy n room
-size-long n room h = rw (lt-ltb 1280 n h)
+pub size-long : (n room : ℕ) → 1280 < n → (k : Checked) → k ≡ Refused LongMessage → k ≡ sizeWhy n room
+size-long n room h k e = rw (lt-ltb 1280 n h) e
 
-pub size-short : (n room : ℕ) → n ≤ 1280 → room < n → Refused ShortBuffer ≡ sizeWhy n room
-size-short n room h g = rw (le-ltb 1280 n h, lt-ltb room n g)
+pub size-short : (n room : ℕ) → n ≤ 1280 → room < n → (k : Checked) → k ≡ Refused ShortBuffer → k ≡ sizeWhy n room
+size-short n room h g k e = rw (le-ltb 1280 n h, lt-ltb room n g) e
 
-pub size-fits : (n room : ℕ) → n ≤ 1280 → n ≤ room → Accepted ≡ sizeWhy n room
-size-fits n room h g = rw (le-ltb 1280 n h, le-ltb room n g)
+pub size-fits : (n room : ℕ) → n ≤ 1280 → n ≤ room → (k : Checked) → k ≡ Accepted → k ≡ sizeWhy n room
+size-fits n room h g k e = rw (le-ltb 1280 n h, le-ltb room n g) e
 
 -- what an accepted size is below
 pub size-accepted : (n room : ℕ) → Accepted ≡ sizeWhy n room → (n ≤ 1280) × (n ≤ room)

@@ -1,6 +1,6 @@
 -- What the rules and the bytes of each message without records come to, by the tests of the code. Assumes nothing.
 use Prim.Native.Nat.{ℕ, _+_, _≤_, _<_}
-use mathlib.Core.Path.{_≡_, sym, ap₂, _∙_}
+use mathlib.Core.Path.{_≡_, sym, ap, ap₂, _∙_}
 use mathlib.Core.Bool.{Bool, true, false, not}
 use mathlib.Core.List.{List, [], _∷_, _++_, reverse}
 use lib.Dec.{eqb}
@@ -33,8 +33,9 @@ probe-good Ping radius room head rest e f = ap₂ (λ (k l : List ℕ). fitting 
 probe-good Pong radius room head rest e f = ap₂ (λ (k l : List ℕ). fitting (k ++ l) room) (sym e) (sym f)
 
 pub probe-writes : (kind : Probe) (radius : List ℕ) {head rest d a : List ℕ} {r : Wrote} → TwoWritten head rest r d a
-    → head ≡ probeType kind ∷ [] → rest ≡ reverse radius → Writes (bytesFor (probeOf kind radius) (length d)) r d a
-probe-writes kind radius {head} {rest} {d} w e f = writes-as (w .writes) (probe-good kind radius (length d) head rest e f)
+    → (t : ℕ) → head ≡ t ∷ [] → t ≡ probeType kind → rest ≡ reverse radius → Writes (bytesFor (probeOf kind radius) (length d)) r d a
+probe-writes kind radius {head} {rest} {d} w t h e f =
+    writes-as (w .writes) (probe-good kind radius (length d) head rest (h ∙ ap (λ (k : ℕ). k ∷ []) e) f)
 
 -- FindNode
 module _ (ds : List ℕ) (room : ℕ) where

@@ -28,7 +28,7 @@ returns c =
     let made = c .before .before .before .before .before .before in
     let named = made .before in
     let a = named .before .before .args in
-    probe-writes (a .kind) (a .radius) (c .before .before .write-two .ensures) (cc (named .probe-head .ensures)) (cc (made .reversed .ensures))
+    probe-writes (a .kind) _ (c .before .before .write-two .ensures) _ (named .probe-head .ensures) (omega arith) (search (made .reversed .ensures))
 
 pub write-probe-spec : {M : Type 1} → statement M
 write-probe-spec =

@@ -10,7 +10,7 @@ use Rattle.message_write.proofs.parts.size_checked.Tie as tie
 returns : tie.Need-returns
 returns c =
     let a = c .before .args in
-    size-long (a .head + a .list + a .rest) (a .room) (omega arith)
+    size-long (a .head + a .list + a .rest) (a .room) (omega arith) _ (search needs)
 
 add-size : tie.Need-add-size
 add-size c = search needs
@@ -21,18 +21,17 @@ add-size-2 c = search needs
 returns-2 : tie.Need-returns-2
 returns-2 c =
     let a = c .before .before .args in
-    size-long (a .head + a .list + a .rest) (a .room) (search needs)
+    size-long (a .head + a .list + a .rest) (a .room) (search needs) _ (search needs)
 
 returns-3 : tie.Need-returns-3
 returns-3 c =
     let a = c .before .before .before .args in
-    let why = size-short (a .head + a .list + a .rest) (a .room) (search needs) (search needs) in
-    cc
+    size-short (a .head + a .list + a .rest) (a .room) (search needs) (search needs) _ (search needs)
 
 returns-4 : tie.Need-returns-4
 returns-4 c =
     let a = c .before .before .before .args in
-    size-fits (a .head + a .list + a .rest) (a .room) (search needs) (search needs)
+    size-fits (a .head + a .list + a .rest) (a .room) (search needs) (search needs) _ (search needs)
 
 pub size-checked-spec : {M : Type 1} → statement M
 size-checked-spec = tie.close (tie.spec returns add-size add-size-2 returns-2 returns-3 returns-4)

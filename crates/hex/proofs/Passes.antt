@@ -90,12 +90,12 @@ length-pairs (c ∷ l ∷ text) = let rest = length-pairs text in omega arith
 pub put-byte : (d text : List ℕ) (i : ℕ) → i < length text / 2 → i < length d
     → (out : List ℕ) → out ≡ take i (pairsOf text) ++ drop i d
     → (h l : ℕ) → h ≡ numberOf (valueOf (getD text (2 * i) 0)) → l ≡ numberOf (valueOf (getD text (2 * i + 1) 0))
-    → set out i (h * 16 + l) ≡ take (i + 1) (pairsOf text) ++ drop (i + 1) d
-put-byte d text i small room out before h l of-h of-l =
+    → (v : ℕ) → v ≡ h * 16 + l → set out i v ≡ take (i + 1) (pairsOf text) ++ drop (i + 1) d
+put-byte d text i small room out before h l of-h of-l v is =
     let s : List ℕ = pairsOf text in
     let n = length-pairs text in
     ap₂ (λ (q : List ℕ) (x : ℕ). set q i x) before
-    (ap₂ (λ (x y : ℕ). x * 16 + y) of-h of-l ∙ sym (pair-at text i (omega arith)))
+    (is ∙ ap₂ (λ (x y : ℕ). x * 16 + y) of-h of-l ∙ sym (pair-at text i (omega arith)))
     ∙ rw add-one (simp zero-add at (paste-suc d 0 s i 0 (omega arith) (omega arith)))
 
 -- where the text has no room, the answer is false and the buffer is as it was

@@ -52,14 +52,14 @@ module _ (limit : ℕ) (v : View) where
 -- the distance of the key at the last place is the radius of a full index
 pub radius-full : (n : ℕ) (node cap keys : List ℕ) (count : ℕ) (key far : List ℕ)
     → good (suc n) (record { node = node; cap = cap; keys = chunks count keys }) ≡ true → suc n ≤ count → 9 * suc n ≤ length keys
-    → key ≡ keyAt keys n → far ≡ xorOf node (keyId key)
+    → (at : ℕ) → key ≡ keyAt keys at → at ≡ n → far ≡ xorOf node (keyId key)
     → radiusFor (suc n) (record { node = node; cap = cap; keys = chunks count keys }) ≡ given far
-radius-full n node cap keys count key far g h long read is =
+radius-full n node cap keys count key far g h long at read last is =
     let v : View = record { node = node; cap = cap; keys = chunks count keys } in
     let few = good-facts (suc n) v g .few in
     let l = chunks-length count keys in
     let e : count ≡ suc n = omega arith in
     radius-last (suc n) v g (omega arith)
     ∙ ap (λ (k : List ℕ). given (xorOf node (keyId k)))
-    (ap (λ (m : ℕ). lastOf (chunks m keys)) e ∙ last-chunks n keys ∙ sym (read ∙ keyAt-in keys n long))
+    (ap (λ (m : ℕ). lastOf (chunks m keys)) e ∙ last-chunks n keys ∙ sym (read ∙ ap (keyAt keys) last ∙ keyAt-in keys n long))
     ∙ ap given (sym is)

@@ -9,6 +9,7 @@ use mathlib.Core.List.{List, [], _∷_}
 use lib.ListN.{length, getD}
 use Rattle.octets.specs.Equal.{sameBytes, holds}
 use Rattle.octets.proofs.Equal.{same-true}
+use Rattle.key_index.specs.View.{chunks}
 use Rattle.key_index.specs.Search.{placeFrom, placeOf}
 use Rattle.key_index.specs.declared.Place.{Place}
 use Rattle.key_index.specs.declared.Place.the-variants.{At, Nothing}
@@ -69,6 +70,10 @@ from-held i key (k ∷ ks) = go (sameBytes key k) (from-held (suc i) key ks)
 -- a place is found if the list holds the key, and else not
 pub place-held : (key : List ℕ) (keys : List (List ℕ)) → isAt (placeOf key keys) ≡ holds sameBytes key keys
 place-held key keys = from-held 0 key keys
+
+-- a place that was looked for among the first n keys, where these are all
+pub place-among : (key bytes : List ℕ) (n count : ℕ) {p : Place} → p ≡ placeOf key (chunks n bytes) → n ≡ count → placeOf key (chunks count bytes) ≡ p
+place-among key bytes n count e all = sym (e ∙ ap (λ (m : ℕ). placeOf key (chunks m bytes)) all)
 
 -- a key that is found is held
 pub at-held : (key : List ℕ) (keys : List (List ℕ)) (i : ℕ) → placeOf key keys ≡ At i → holds sameBytes key keys ≡ true

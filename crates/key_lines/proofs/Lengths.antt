@@ -24,8 +24,8 @@ longer-below len n h e =
     ⊎-elim (λ w. ⊎-elim (λ v. omega arith) (λ v. omega arith) (cases (n + 1)))
     (λ w. ⊎-elim (λ v. omega arith) (λ v. omega arith) (cases (n + 1))) (cases n)
 
-pub longer-at : (len n : ℕ) → 20 ≤ len → len ≡ capped n → 19 ≡ capped (n + 1)
-longer-at len n h e =
+pub longer-at : (len n r : ℕ) → 20 ≤ len → len ≡ capped n → r ≡ 19 → r ≡ capped (n + 1)
+longer-at len n r h e is =
     ⊎-elim (λ w. ⊎-elim (λ v. omega arith) (λ v. omega arith) (cases (n + 1)))
     (λ w. ⊎-elim (λ v. omega arith) (λ v. omega arith) (cases (n + 1))) (cases n)
 

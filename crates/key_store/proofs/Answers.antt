@@ -7,8 +7,7 @@ use lib.Dec.{leb}
 use Rattle.refusal.specs.Says.{Said, only}
 use Rattle.refusal.specs.Outcome.{Outcome}
 use Rattle.octets.specs.Bytes.{be}
-use Rattle.distance.specs.Distance.{xorOf}
-use Rattle.content_key.specs.Key.{keyOf, keyId}
+use Rattle.content_key.specs.Key.{keyOf}
 use Rattle.rlp.specs.Content.{acceptable, contentOf}
 use Rattle.key_index.specs.View.{View}
 use Rattle.key_index.specs.Good.{awayFrom, good, radiusOf}
@@ -40,11 +39,6 @@ module _ (limit : ℕ) (v : View) (key : List ℕ) where
   pub admit-far : isHeld key v ≡ false → leb (awayFrom (v .node) key) (be (radiusOf limit v)) ≡ false → refused (only 10) ≡ admitOf limit v key
   unfolding admitOf
   admit-far h w = rw (h, w)
-
-  -- the code's test of the distance
-  pub tested : (far reach : List ℕ) (t b : Bool) → far ≡ xorOf (v .node) (keyId key) → reach ≡ radiusOf limit v
-      → t ≡ leb (be far) (be reach) → t ≡ b → leb (awayFrom (v .node) key) (be (radiusOf limit v)) ≡ b
-  tested far reach t b d r e q = sym (ap₂ (λ (x y : List ℕ). leb (be x) (be y)) d r) ∙ sym e ∙ q
 
   pub admit-put : isHeld key v ≡ false → leb (awayFrom (v .node) key) (be (radiusOf limit v)) ≡ true → putOf limit v key ≡ admitOf limit v key
   unfolding admitOf

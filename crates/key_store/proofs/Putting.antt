@@ -49,6 +49,11 @@ module _ (node key b : List ℕ) (l : length key ≡ 9) where
       ∙ ap (λ (q : ℕ). take q (chunks count b) ++ key ∷ drop q (chunks count b)) e
       ∙ sym (insert-behind node key (chunks count b) new)
 
+-- a key put at a place that is p
+pub same-place : (index : KeyIndex) (count from to p : ℕ) (key keys : List ℕ) {next : KeyIndex}
+    → next ≡ withBytes index count (keyAtPlace from to key keys) → from ≡ p → next ≡ withBytes index count (keyAtPlace p to key keys)
+same-place index count from to p key keys e at = e ∙ ap (λ (k : ℕ). withBytes index count (keyAtPlace k to key keys)) at
+
 -- the index with the key at place p, behind the nearer keys, has the view that the definition gives
 module _ (index : KeyIndex) (key : List ℕ) (o : OfBytes (view index)) (nine : NineBytes key) (out : isHeld key (view index) ≡ false)
     (p : ℕ) (is : p ≡ nearer (index .node) (awayFrom (index .node) key) (chunks (index .count) (index .keys))) where

@@ -8,6 +8,7 @@ use lib.ListN.{length, getD}
 use mir.Val.{Fits}
 use mir.Syntax.{w8}
 use Rattle.octets.proofs.Numbers.{bytes-all}
+use Rattle.content_key.specs.Id.{reverseBits}
 use Rattle.content_key.proofs.Listing.{id-listing}
 use Rattle.content_key.proofs.id.Statement.{statement}
 use Rattle.content_key.proofs.id.Tie as tie
@@ -90,14 +91,13 @@ returns c =
     let key = start .args .t1 in
     let known : (i : ℕ) → getD key i 0 < 256 = λ i. let f : Fits w8 (getD key i 0) = search needs in omega arith in
     let size : length key ≡ 9 = search needs in
-    simp (
-      c .before .before .before .before .before .reversed .ensures,
-      c .before .before .before .before .reversed2 .ensures,
-      c .before .before .before .reversed3 .ensures,
-      c .before .before .reversed4 .ensures,
-      c .before .reversed5 .ensures,
-      c .reversed6 .ensures,
-    )
+    let r3 : c .before .before .before .before .before .reversed .result ≡ reverseBits 8 (getD key 3 0) = search needs in
+    let r4 : c .before .before .before .before .reversed2 .result ≡ reverseBits 8 (getD key 4 0) = search needs in
+    let r5 : c .before .before .before .reversed3 .result ≡ reverseBits 8 (getD key 5 0) = search needs in
+    let r6 : c .before .before .reversed4 .result ≡ reverseBits 8 (getD key 6 0) = search needs in
+    let r7 : c .before .reversed5 .result ≡ reverseBits 8 (getD key 7 0) = search needs in
+    let r8 : c .reversed6 .result ≡ reverseBits 8 (getD key 8 0) = search needs in
+    simp (r3, r4, r5, r6, r7, r8)
     (sym (id-listing key (bytes-all key known) size))
 
 pub id-spec : {M : Type 1} → statement M

@@ -2,7 +2,8 @@
 -- Assumes nothing.
 use borrow.Author.Needs.{needs}
 use denote.Ref.{now}
-use mathlib.Core.Path.{sym, _∙_, ap}
+use mathlib.Core.Path.{_≡_, sym, _∙_, ap}
+use lib.ListN.{length}
 use Rattle.refusal.specs.Outcome.{given, orZeros}
 use Rattle.content_key.proofs.Keys.{key-length, key-selector, key-given}
 use Rattle.octets.proofs.Parts.{bytes-at-all}
@@ -19,7 +20,7 @@ shared-slice-read-if2 c = search needs
 
 returns-2 : tie.Need-returns-2
 returns-2 c =
-    let e = key-selector (now (c .before .before .before .before .args .bytes)) (c .before .before .if1 .left) (c .if2 .taken) in
+    let e = key-selector (now (c .before .before .before .before .args .bytes)) (search needs) (search needs) in
     (sym e, ap (orZeros 9) (sym e))
 
 part9-requires : tie.Need-part9-requires
@@ -28,8 +29,8 @@ part9-requires c κs = search needs
 returns-3 : tie.Need-returns-3
 returns-3 c =
     let s = now (c .before .before .before .before .before .args .bytes) in
-    let n = c .before .before .before .if1 .left in
-    let e = key-given s n (c .before .if2 .left) in
+    let n : length s ≡ 9 = search needs in
+    let e = key-given s n (search needs) in
     let l = c .part9 .ensures ∙ bytes-at-all 9 s n in
     (ap given l ∙ sym e, l ∙ ap (orZeros 9) (sym e))
 

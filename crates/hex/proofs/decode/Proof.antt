@@ -103,7 +103,7 @@ loop-again c =
       search needs,
       simp length-set (search needs),
       put-byte (a .out .now) (a .text .now) (turn .loop .i) (search needs) (search needs) (turn .loop .out) (turn .loop .inv .2)
-          (c .before .before .number .result) (c .number2 .result) (c .before .before .number .ensures .0) (c .number2 .ensures .0),
+          (c .before .before .number .result) (c .number2 .result) (c .before .before .number .ensures .0) (c .number2 .ensures .0) _ (search needs),
     )
 
 same-length : tie.Need-same-length Inv-loop μ-loop

@@ -87,7 +87,7 @@ loop-again c =
       search needs,
       simp length-set (search needs),
       put-text (a .out .now) (a .at) (a .bytes .now) (turn .loop .i) (search needs) (search needs) (turn .loop .out) (turn .loop .inv .4)
-          (c .before .glyph .result) (c .glyph2 .result) (c .before .glyph .ensures) (c .glyph2 .ensures),
+          (c .before .glyph .result) (c .glyph2 .result) (search needs) (search needs),
     )
 
 same-length : tie.Need-same-length Inv-loop μ-loop

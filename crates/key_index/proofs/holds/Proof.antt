@@ -7,7 +7,8 @@ use Rattle.refusal.specs.Outcome.{given}
 use Rattle.refusal.proofs.Outcomes.{was-given, was-refused}
 use Rattle.key_index.specs.View.{view}
 use Rattle.key_index.specs.Good.{good}
-use Rattle.key_index.proofs.Places.{at-held, nothing-held}
+use Rattle.key_index.specs.Search.{placeOf}
+use Rattle.key_index.proofs.Places.{place-among, at-held, nothing-held}
 use Rattle.key_index.proofs.Answers.{holds-bad, holds-refused, holds-given}
 use borrow.Author.Needs.{needs}
 use Rattle.key_index.proofs.holds.Statement.{statement}
@@ -49,17 +50,22 @@ asked c = c .before .before .before .before .before .before .before
 good-here : (c : tie.After-find) → good 240 (view (asked c .before .before .before .before .args .t1)) ≡ true
 good-here c = sym (asked c .before .before .is-good .ensures) ∙ not-false _ (asked c .before .if1 .left)
 
+-- the key is looked for among the keys in use
+among : (c : tie.After-find)
+    → placeOf (asked c .key .result .key) (view (asked c .before .before .before .before .args .t1) .keys) ≡ c .find .result
+among c = place-among _ _ _ (asked c .before .before .before .before .args .t1 .count) (c .find .ensures) (search needs)
+
 returns-3 : tie.Need-returns-3
 returns-3 c =
     let at = c .before .before in
     let k = was-given _ _ (asked at .key .ensures .0) (at .before .before .before .before .before .enum-told .given .1) in
-    ap given (sym (at-held _ _ _ (sym (at .find .ensures) ∙ c .enum-told2 .given .1))) ∙ holds-given 240 _ _ (good-here at) k
+    ap given (sym (at-held _ _ _ (among at ∙ c .enum-told2 .given .1))) ∙ holds-given 240 _ _ (good-here at) k
 
 returns-4 : tie.Need-returns-4
 returns-4 c =
     let at = c .before .before in
     let k = was-given _ _ (asked at .key .ensures .0) (at .before .before .before .before .before .enum-told .given .1) in
-    ap given (sym (nothing-held _ _ (sym (at .find .ensures) ∙ c .enum-told3 .given .1))) ∙ holds-given 240 _ _ (good-here at) k
+    ap given (sym (nothing-held _ _ (among at ∙ c .enum-told3 .given .1))) ∙ holds-given 240 _ _ (good-here at) k
 
 pub holds-spec : {M : Type 1} → statement M
 holds-spec =

@@ -2,11 +2,12 @@
 -- `Turn`, whose laws answer the returns and the next turn. The measure is what is left of the count. Assumes nothing.
 use Prim.Native.Nat.{_-_}
 use native.Mathlib.Omega.{arith}
-use mathlib.Core.Path.{_≡_, sym, _∙_}
+use mathlib.Core.Path.{_≡_}
 use mathlib.Core.Logic.{⊎-elim}
 use lib.ListN.{length}
 use borrow.Author.Needs.{needs}
-use borrow.Author.Tests.{leb-true, leb-false, not-true, not-false}
+use borrow.Author.Tests.{leb-true, leb-false}
+use Rattle.distance.proofs.Tested.{over-true, over-false}
 use Rattle.key_index.proofs.Scan.{Scan, Turn, good-many, scan-start, scan-end, turn-selector, turn-order, turn-cap, turn-next}
 use Rattle.key_index.proofs.is_good.Statement.{statement}
 use Rattle.key_index.proofs.is_good.Tie as tie
@@ -57,14 +58,16 @@ at-most-requires c κs = search needs
 
 returns-3 : tie.Need-returns-3 Inv-loop μ-loop
 returns-3 c =
-    turn-order (turn (c .before .before .before .before)) (search needs) (leb-true _ _ (sym (c .before .at-most .ensures) ∙ c .if4 .taken))
+    let t = rw (c .before .at-most .ensures) at (c .if4 .taken) in
+    turn-order (turn (c .before .before .before .before)) (search needs) (omega (arith, leb-true, over-true))
 
 at-most-requires-2 : tie.Need-at-most-requires-2 Inv-loop μ-loop
 at-most-requires-2 c κs = search needs
 
 returns-4 : tie.Need-returns-4 Inv-loop μ-loop
 returns-4 c =
-    turn-cap (turn (c .before .before .before .before .before)) (leb-false _ _ (sym (c .before .at-most2 .ensures) ∙ not-true _ (c .if5 .taken)))
+    let t = rw (c .before .at-most2 .ensures) at (c .if5 .taken) in
+    turn-cap (turn (c .before .before .before .before .before)) (omega (arith, leb-true, over-true))
 
 add-i : tie.Need-add-i Inv-loop μ-loop
 add-i c = search needs
@@ -75,8 +78,8 @@ loop-less c = search needs
 loop-again : tie.Need-loop-again Inv-loop μ-loop
 loop-again c =
     turn-next (turn (c .before .before .before .before .before)) (search needs)
-    (⊎-elim (λ w z. leb-false _ _ (sym (w .1 .ensures) ∙ w .2 .left)) (λ w z. absurd (omega (arith, w .left, z))) (c .before .before .before .if3 .came))
-    (leb-true _ _ (sym (c .before .at-most2 .ensures) ∙ not-false _ (c .if5 .left)))
+    (⊎-elim (λ w z. let u = rw (w .1 .ensures) at (w .2 .left) in omega (arith, leb-false, over-false)) (λ w z. absurd (omega (arith, w .left, z))) (c .before .before .before .if3 .came))
+    (let u = rw (c .before .at-most2 .ensures) at (c .if5 .left) in omega (arith, leb-false, over-false))
 
 returns-5 : tie.Need-returns-5 Inv-loop μ-loop
 returns-5 c = scan-end (c .before .loop .inv) (search needs)

@@ -43,7 +43,7 @@ returns-3 c =
     let at = c .before .before .before .before .before .before in
     let g = sym (at .before .before .is-good .ensures) ∙ not-false _ (at .before .if1 .left) in
     let n = size (at .before .before .before) in
-    let e = sym (radius-full 239 _ _ _ _ _ _ g (at .if2 .left) (omega (arith, n)) (c .before .key-at .ensures) (c .away .ensures)) in
+    let e = sym (radius-full 239 _ _ _ _ _ _ g (at .if2 .left) (omega (arith, n)) _ (c .before .key-at .ensures) (omega arith) (c .away .ensures)) in
     (e, ap (orZeros 32) e)
 
 pub radius-spec : {M : Type 1} → statement M

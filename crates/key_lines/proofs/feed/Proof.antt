@@ -3,10 +3,12 @@
 use Prim.Native.Nat.{ℕ, _-_, _≤_, _<_}
 use mathlib.Core.List.{List, _++_, append-nil}
 use mathlib.Core.Path.{_≡_, _∙_, ap, sym, subst}
+use mathlib.Core.Bool.{_||_, not}
 use mathlib.Core.Logic.{⊎-elim}
 use lib.ListN.{length, getD, take, length-set}
 use lib.Seq.{take-all}
 use borrow.Author.Needs.{needs}
+use Rattle.hex.specs.Digits.{valueOf, isDigit}
 use Rattle.key_lines.specs.State.{Begun}
 use Rattle.key_lines.specs.declared.Line.{Line}
 use Rattle.key_lines.proofs.States.{stored, passed, next-of}
@@ -60,7 +62,7 @@ loop-again c =
       λ text b.
           let old = at .loop .inv .3 text b in
           let grow = c .before .longer .ensures in
-          let bad = c .worse .ensures in
+          let bad : c .worse .result ≡ (at .loop .bad || not (isDigit (valueOf (getD part i 0)))) = search needs in
           subst (Begun next) (sym (next-of text part i small))
           (⊎-elim
           (λ w. stored _ _ _ (text ++ take i part) old (getD part i 0) _ (w .0 .taken) (w .1) _ grow _ bad)

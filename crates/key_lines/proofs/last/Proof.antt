@@ -9,7 +9,7 @@ use Rattle.key_lines.proofs.last.Statement.{statement}
 use Rattle.key_lines.proofs.last.Tie as tie
 
 returns : tie.Need-returns
-returns c = (λ text b. padded-is [] _ 0 refl refl ∙ ap padded (last-none _ text b (search needs)), search needs)
+returns c = (λ text b. padded-is [] _ 0 refl (search needs) ∙ ap padded (last-none _ text b (search needs)), search needs)
 
 finish-requires : tie.Need-finish-requires
 finish-requires c κs = search needs

@@ -9,10 +9,10 @@ add-result : tie.Need-add-result
 add-result c = search needs
 
 returns : tie.Need-returns
-returns c = λ n e. longer-below _ n (c .if1 .taken) e
+returns c = λ n e. longer-below _ n (search needs) e
 
 returns-2 : tie.Need-returns-2
-returns-2 c = λ n e. longer-at _ n (c .if1 .left) e
+returns-2 c = λ n e. longer-at _ n _ (search needs) e (search needs)
 
 pub longer-spec : {M : Type 1} → statement M
 longer-spec = tie.close (tie.spec add-result returns returns-2)

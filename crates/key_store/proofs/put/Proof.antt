@@ -20,7 +20,7 @@ use Rattle.key_store.specs.Move.{nearer}
 use Rattle.key_store.specs.Cases.{OfBytes}
 use Rattle.key_index.specs.Keys.{NineBytes}
 use Rattle.key_store.proofs.Nearer.{nearer-most}
-use Rattle.key_store.proofs.Putting.{room-answer, full-place, full-answer}
+use Rattle.key_store.proofs.Putting.{same-place, room-answer, full-place, full-answer}
 use borrow.Author.Needs.{needs}
 use Rattle.key_store.proofs.put.Statement.{statement}
 use Rattle.key_store.proofs.put.Tie as tie
@@ -114,7 +114,7 @@ returns-2 c =
     let e =
     full-answer (a .t1) (a .key) (of-bytes s) (nine s) (s .pre .1 .0) (p .result) (place s _ (p .ensures)) 239 (s .pre .0) left (omega (arith, size s)) (within s)
     (last .result) (last .ensures) in
-    (ap (λ (i : KeyIndex). without (last .result) (view i)) (c .with-key2 .ensures) ∙ ap (givenBy (a .t1)) e, ap evictedOr0 e)
+    (ap (λ (i : KeyIndex). without (last .result) (view i)) (same-place (a .t1) _ _ _ (p .result) _ _ (c .with-key2 .ensures) (omega arith)) ∙ ap (givenBy (a .t1)) e, ap evictedOr0 e)
 
 pub put-spec : {M : Type 1} → statement M
 put-spec =

@@ -189,6 +189,11 @@ saving-next node cap keys count d i out s h key read after p =
       };
     }
 
+-- the first line with a count that is the index's
+pub header-as : (node cap : List ℕ) (said count : ℕ) (d : List ℕ) {first : List ℕ} → first ≡ placed d 0 (lineOf (headFrame node cap said))
+    → said ≡ count → first ≡ placed d 0 (lineOf (headFrame node cap count))
+header-as node cap said count d e s = e ∙ ap (λ (k : ℕ). placed d 0 (lineOf (headFrame node cap k))) s
+
 -- the buffer `first`, with its first line, before the loop
 module _ (node cap keys : List ℕ) (count : ℕ) (d first : List ℕ) (n : length node ≡ 32) (c : length cap ≡ 32) (h : 133 + 21 * count ≤ length d)
     (p : first ≡ placed d 0 (lineOf (headFrame node cap count))) where

@@ -10,7 +10,7 @@ use borrow.Author.Tests.{not-true, not-false}
 use Rattle.key_index.specs.View.{view}
 use Rattle.key_index.specs.Good.{good}
 use Rattle.snapshot.specs.Text.{snapshotOf}
-use Rattle.snapshot.proofs.Writing.{Saving, few-keys, saved-length, saving-start, saving-next, saving-end, save-bad, save-short, save-written}
+use Rattle.snapshot.proofs.Writing.{Saving, header-as, few-keys, saved-length, saving-start, saving-next, saving-end, save-bad, save-short, save-written}
 use Rattle.snapshot.proofs.saving.save.Statement.{statement}
 use Rattle.snapshot.proofs.saving.save.Tie as tie
 
@@ -80,7 +80,7 @@ loop-holds c =
     let a = c .before .before .before .before .before .before .before .before .before .before .args in
     let f = few (c .before .before .before .before .before .before .before) in (
       saving-start (a .t1 .node) (a .t1 .cap) (a .t1 .keys) (a .t1 .count) (a .out .now) _ (node-size (c .before .before .before .before .before .before .before .before .before .before)) (cap-size (c .before .before .before .before .before .before .before .before .before .before))
-          (c .before .before .before .before .before .before .if2 .left) (c .before .before .write-header .ensures) f (omega (arith, keys-size (c .before .before .before .before .before .before .before .before .before .before))),
+          (c .before .before .before .before .before .before .if2 .left) (header-as (a .t1 .node) (a .t1 .cap) _ (a .t1 .count) (a .out .now) (c .before .before .write-header .ensures) (search needs)) f (omega (arith, keys-size (c .before .before .before .before .before .before .before .before .before .before))),
       search needs,
     )
 
@@ -119,7 +119,7 @@ returns-3 c =
     let n = size (c .before .before .before .before .before .before .before .before .before .before .before .before) f in
     save-written 240 (view (a .t1)) (a .out .now) (is-good (c .before .before .before .before .before .before .before .before .before)) (133 + 21 * a .t1 .count) n (c .before .before .before .before .before .before .before .before .if2 .left) _
     (saving-end (a .t1 .node) (a .t1 .cap) (a .t1 .keys) (a .t1 .count) (a .out .now) _ (node-size (c .before .before .before .before .before .before .before .before .before .before .before .before)) (cap-size (c .before .before .before .before .before .before .before .before .before .before .before .before))
-    (c .before .before .before .before .before .before .before .before .if2 .left) (c .before .before .before .before .write-header .ensures) _ _ (c .before .loop .inv .0) (c .loop-test .left))
+    (c .before .before .before .before .before .before .before .before .if2 .left) (header-as (a .t1 .node) (a .t1 .cap) _ (a .t1 .count) (a .out .now) (c .before .before .before .before .write-header .ensures) (search needs)) _ _ (c .before .loop .inv .0) (c .loop-test .left))
 
 pub save-spec : {M : Type 1} → statement M
 save-spec =

@@ -55,10 +55,8 @@ fn key(selector: u8, number: u8) -> [u8; 9] {
 // An index of node id zero: two keys in front, and one byte in all other places.
 fn index(cap: [u8; 32], fill: u8, count: usize, first: [u8; 9], second: [u8; 9]) -> KeyIndex {
     let mut keys = [fill; 2160];
-    for i in 0..9 {
-        keys[i] = first[i];
-        keys[i + 9] = second[i];
-    }
+    octets::put(&first, &mut keys, 0);
+    octets::put(&second, &mut keys, 9);
     KeyIndex {
         node: [0u8; 32],
         cap,

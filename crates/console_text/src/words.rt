@@ -1,5 +1,4 @@
 // The words of a line, which one space separates.
-ghost use Prim.Native.Nat.{_<_};
 use hex::Decoded;
 
 // How many words a line may have.
@@ -163,15 +162,9 @@ pub fn number(word: &[u8]) -> Decimal {
         if c < b'0' || b'9' < c {
             return no;
         }
-        value = value % 100000 * 10 + wide(c - b'0');
+        value = value % 100000 * 10 + octets::wide(c - b'0');
     }
     Decimal { good: true, value }
-}
-
-fn wide(x: u8) -> usize
-    ensures { λ r. ⌜ r < 256 ⌝ }
-{
-    x as usize
 }
 
 // The first n places, or none where there are fewer.

@@ -5,7 +5,7 @@ use native.Mathlib.Decide.{decLt}
 use native.Mathlib.Omega.{arith}
 use mathlib.Core.Path.{_≡_, refl, sym, _∙_, ap, ap₂}
 use mathlib.Core.List.{List, [], _∷_, reverse, reverse-cons}
-use lib.ListN.{length, getD, take, drop, drop-of-length-le, length-reverse, List·getD-append}
+use lib.ListN.{length, getD, take, drop, drop-of-length-le, length-reverse, List·getD-append, List·getD-eq-default}
 use lib.Seq.{drop-cons, getD-at}
 use Rattle.octets.specs.Bytes.{le}
 use Rattle.octets.specs.Parts.{bytesAt}
@@ -39,17 +39,11 @@ bytes-at-rest (suc n) j xs h =
 pub bytes-at-all : (n : ℕ) (xs : List ℕ) → length xs ≡ n → bytesAt n 0 xs ≡ xs
 bytes-at-all n xs h = bytes-at-rest n 0 xs (omega arith)
 
--- past the end a list gives 0
-pub past-zero : (xs : List ℕ) (j : ℕ) → length xs ≤ j → getD xs j 0 ≡ 0
-past-zero [] j h = refl
-past-zero (x ∷ xs) zero h = absurd (omega arith)
-past-zero (x ∷ xs) (suc j) h = past-zero xs j (omega arith)
-
--- and zeros stand for 0
+-- past the end all of them are 0, which stand for 0
 le-past : (n j : ℕ) (xs : List ℕ) → length xs ≤ j → le (bytesAt n j xs) ≡ 0
 unfolding le
 le-past zero j xs h = refl
-le-past (suc n) j xs h = omega (arith, past-zero xs j h, le-past n (suc j) xs (omega arith))
+le-past (suc n) j xs h = omega (arith, List·getD-eq-default xs 0 {n = j} h, le-past n (suc j) xs (omega arith))
 
 -- so bytes past the end do not count in the number, lightest byte first
 pub le-part : (n j : ℕ) (xs : List ℕ) → le (bytesAt n j xs) ≡ le (take n (drop j xs))

@@ -1,19 +1,19 @@
 -- `octets::byte` meets its contract: past the end a list gives its default. Assumes nothing.
 use native.Mathlib.Omega.{arith}
 use mathlib.Core.Path.{sym}
+use lib.ListN.{List·getD-eq-default}
 use borrow.Author.Needs.{needs}
-use Rattle.octets.proofs.Parts.{past-zero}
 use Rattle.octets.proofs.byte.Statement.{statement}
 use Rattle.octets.proofs.byte.Tie as tie
 
 returns : tie.Need-returns
-returns c = let a = c .before .args in sym (past-zero (a .bytes .now) _ (omega (arith, c .if1 .taken)))
+returns c = let a = c .before .args in sym (List·getD-eq-default (a .bytes .now) 0 (omega (arith, c .if1 .taken)))
 
 sub-if2 : tie.Need-sub-if2
 sub-if2 c = search needs
 
 returns-2 : tie.Need-returns-2
-returns-2 c = let a = c .before .before .args in sym (past-zero (a .bytes .now) _ (omega (arith, c .if2 .taken)))
+returns-2 c = let a = c .before .before .args in sym (List·getD-eq-default (a .bytes .now) 0 (omega (arith, c .if2 .taken)))
 
 add-result : tie.Need-add-result
 add-result c = search needs

@@ -8,7 +8,8 @@ use mathlib.Core.List.{List, [], _∷_, List·Memᴰ·head as here, List·Memᴰ
 use lib.ListN.{length, take}
 use lib.Seq.{take-all}
 use Rattle.nearest.specs.Sorted.{_among_, SortedFrom, distances}
-use Rattle.nearest.specs.Insert.{Order, less, same, more, order, placed, insert, offer}
+use Rattle.nearest.specs.Insert.{insert, offer}
+use Rattle.nearest.proofs.Order.{Order, less, same, more, order, putBy, placed-by}
 use Rattle.nearest.specs.Nearest.{Nearest, Within}
 use Rattle.nearest.proofs.Lists.{among?}
 use Rattle.nearest.proofs.Sorted.{sorted-least}
@@ -184,10 +185,10 @@ module _ {K : Type 0} (dist : K → ℕ) where
     unfolding insert
     near-offer b zero R h near = near-none b And
     near-offer b (suc m) [] h near = near-first b m [] h tt near
-    near-offer b (suc m) (r ∷ rs) h near = by (order (dist k) (dist r)) (λ g. near-offer (suc (dist r)) m rs g (near-rest b m P r rs near))
+    near-offer b (suc m) (r ∷ rs) h near = rw (placed-by (order (dist k) (dist r)) k r rs (insert dist k rs)) (by (order (dist k) (dist r)) (λ g. near-offer (suc (dist r)) m rs g (near-rest b m P r rs near)))
       where
         by : (o : Order (dist k) (dist r)) → (suc (dist r) ≤ dist k → Near (suc (dist r)) m And (offer dist m k rs))
-            → Near b (suc m) And (take (suc m) (placed o k r rs (insert dist k rs)))
+            → Near b (suc m) And (take (suc m) (putBy o k r rs (insert dist k rs)))
         by (less g) rest = near-first b m (r ∷ rs) h (g, near .sorted .1) near
         by (same e) rest =
             rw (take-all (suc m) (r ∷ rs) (near .most))

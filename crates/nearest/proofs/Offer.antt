@@ -8,7 +8,8 @@ use mathlib.Core.List.{List, [], _∷_, _++_, List·Memᴰ·head as here, List·
 use lib.ListN.{length, take}
 use lib.Seq.{take-all, take-at}
 use Rattle.nearest.specs.Sorted.{_among_, SortedFrom, Sorted, distances}
-use Rattle.nearest.specs.Insert.{Order, less, same, more, order, placed, insert, offer}
+use Rattle.nearest.specs.Insert.{insert, offer}
+use Rattle.nearest.proofs.Order.{Order, less, same, more, order, putBy, placed-by}
 use Rattle.nearest.proofs.Lists.{middle-self, length-middle}
 use Rattle.nearest.proofs.Sorted.{sorted-last, distances-front}
 use Rattle.nearest.proofs.Insert.{insert-held, insert-length, insert-enters, insert-only, insert-stays, insert-more, insert-less}
@@ -25,9 +26,9 @@ module _ {K : Type 0} (dist : K → ℕ) (k : K) where
   far-unchanged : (b : ℕ) (xs : List K) (far : K) → SortedFrom dist b (xs ++ far ∷ []) → dist far ≤ dist k
       → offer dist (length (xs ++ far ∷ [])) k (xs ++ far ∷ []) ≡ xs ++ far ∷ []
   unfolding insert
-  far-unchanged b [] far s h = by (order (dist k) (dist far))
+  far-unchanged b [] far s h = rw (placed-by (order (dist k) (dist far)) k far [] (k ∷ [])) (by (order (dist k) (dist far)))
     where
-      by : (o : Order (dist k) (dist far)) → take 1 (placed o k far [] (k ∷ [])) ≡ far ∷ []
+      by : (o : Order (dist k) (dist far)) → take 1 (putBy o k far [] (k ∷ [])) ≡ far ∷ []
       by (less g) = absurd (omega arith)
       by (same e) = refl
       by (more g) = refl
@@ -40,11 +41,16 @@ module _ {K : Type 0} (dist : K → ℕ) (k : K) where
       → offer dist (length (xs ++ far ∷ [])) k (xs ++ far ∷ []) ≡ insert dist k xs
   unfolding insert
   near-placed b [] far s h new = ap (λ (l : List K). take 1 l) (insert-less dist k far [] h)
-  near-placed b (x ∷ xs) far s h new = by (order (dist k) (dist x)) (near-placed (suc (dist x)) xs far (s .1) h (λ m. new (there m)))
+  near-placed b (x ∷ xs) far s h new =
+      rw (
+        placed-by (order (dist k) (dist x)) k x (xs ++ far ∷ []) (insert dist k (xs ++ far ∷ [])),
+        placed-by (order (dist k) (dist x)) k x xs (insert dist k xs),
+      )
+      (by (order (dist k) (dist x)) (near-placed (suc (dist x)) xs far (s .1) h (λ m. new (there m))))
     where
       by : (o : Order (dist k) (dist x)) → offer dist (length (xs ++ far ∷ [])) k (xs ++ far ∷ []) ≡ insert dist k xs
-          → take (suc (length (xs ++ far ∷ []))) (placed o k x (xs ++ far ∷ []) (insert dist k (xs ++ far ∷ [])))
-          ≡ placed o k x xs (insert dist k xs)
+          → take (suc (length (xs ++ far ∷ []))) (putBy o k x (xs ++ far ∷ []) (insert dist k (xs ++ far ∷ [])))
+          ≡ putBy o k x xs (insert dist k xs)
       by (less g) rest =
           ap (λ (l : List K). k ∷ l) (take-at (x ∷ xs) (far ∷ []) (length (xs ++ far ∷ []))
           (sym (length-middle xs far [] ∙ ap suc (ap length (append-nil xs)))))

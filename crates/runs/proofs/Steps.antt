@@ -10,7 +10,8 @@ use lib.ListN.{length}
 use Rattle.refusal.specs.Says.{Said, numberIn}
 use Rattle.refusal.specs.Outcome.{given, refusal}
 use Rattle.nearest.specs.Sorted.{_among_, distances}
-use Rattle.nearest.specs.Insert.{Order, less, same, more, order, insert, offer}
+use Rattle.nearest.specs.Insert.{insert, offer}
+use Rattle.nearest.proofs.Order.{Order, less, same, more, order}
 use Rattle.nearest.proofs.Lists.{middle-self, length-middle}
 use Rattle.nearest.proofs.Sorted.{sorted-last, distances-front}
 use Rattle.nearest.proofs.Insert.{insert-only, insert-stays, insert-enters, insert-length}

@@ -4,9 +4,10 @@ use native.Mathlib.Decide.{ℕ-discrete}
 use native.Mathlib.Omega.{arith}
 use mathlib.Core.Path.{_≡_, refl, ap, _∙_}
 use mathlib.Core.List.{List, [], _∷_, _++_}
-use lib.ListN.{length, getD, take, drop, length-append, length-take, length-drop, List·getD-append}
+use lib.ListN.{length, getD, take, drop, replicate, length-append, length-replicate, length-take, length-drop, List·getD-append}
 use lib.Seq.{getD-at}
 use Rattle.message.specs.Reading.{partAt, recordsAt}
+use Rattle.message.specs.Report.{in32}
 
 -- a part that lies in a list has its length
 pub part-length : (s : List ℕ) (base size : ℕ) → base + size ≤ length s → length (partAt s base size) ≡ size
@@ -20,6 +21,13 @@ pub part-between : (s : List ℕ) (start size : ℕ) → between s start size �
 part-between s start size =
     let n : start + size - start ≡ size = omega arith in
     ap (λ (k : ℕ). take k (drop start s)) n
+
+-- numbers in 32 places are 32, and start with the numbers
+pub in32-length : (ns : List ℕ) → length ns ≤ 32 → length (in32 ns) ≡ 32
+in32-length ns h = omega (arith, length-append ns (replicate (32 - length ns) 0), length-replicate {A = ℕ} (32 - length ns) 0)
+
+pub in32-at : (ns : List ℕ) (k : ℕ) → k < length ns → getD (in32 ns) k 0 ≡ getD ns k 0
+in32-at ns k h = List·getD-append ns (replicate (32 - length ns) 0) 0 k h
 
 -- as many records as places
 pub records-length : (s starts lens : List ℕ) (n : ℕ) → length (recordsAt s starts lens n) ≡ n

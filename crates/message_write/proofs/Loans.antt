@@ -7,7 +7,7 @@ use mathlib.Core.Bool.{Bool, true, false, cond, not, _&&_, and-assoc}
 use mathlib.Core.List.{List, [], _∷_, _++_}
 use mathlib.Core.Option.{Option, some, none}
 use lib.Dec.{eqb, leb}
-use lib.ListN.{length, getD, take, drop, replicate, length-append, length-drop, length-replicate, List·getD-append}
+use lib.ListN.{length, getD, take, drop}
 use lib.Seq.{length-take-le, getD-take}
 use borrow.Author.Tests.{eq-eqb, ne-eqb, eqb-true, eqb-false, le-leb, lt-leb, leb-true, leb-false, not-true, not-false}
 use Rattle.refusal.specs.declared.Refusal.{Refusal}
@@ -18,12 +18,13 @@ use Rattle.octets.proofs.Numbers.{bytes-take, bytes-drop}
 use Rattle.message.specs.Values.{AllBytes}
 use Rattle.message.specs.Decode.{mapSome}
 use Rattle.message.specs.Reading.{partAt, recordsAt}
+use Rattle.message.specs.Report.{in32}
 use Rattle.message.proofs.Tests.{both, passed}
 use Rattle.message_rules.specs.Good.{insideAt, goodAt, Places}
-use Rattle.message_rules.proofs.Places.{records-length}
+use Rattle.message_rules.proofs.Places.{in32-length, in32-at, records-length}
 use Rattle.message_rules.proofs.Good.{outside-at, inside-all, all-inside, good-inside}
 use Rattle.message_write.specs.declared.records.Lent.{Lent}
-use Rattle.message_write.specs.Lent.{within, lent, allWithin, padded, lentWhy, unlentOf, LentTo}
+use Rattle.message_write.specs.Lent.{within, lent, allWithin, lentWhy, unlentOf, LentTo}
 use Rattle.refusal.proofs.Outcomes.{accepted-not}
 
 module _ (s starts lens : List ℕ) where
@@ -163,18 +164,12 @@ lent-first s starts lens n h g inside =
         all-inside s (take n starts) (take n lens) n
         (λ i less. omega (arith, inside i less, getD-take n starts i 0 less, getD-take n lens i 0 less))
 
-padded-at : (xs : List ℕ) (i : ℕ) → i < length xs → getD (padded xs) i 0 ≡ getD xs i 0
-padded-at xs i h = List·getD-append xs (drop (length xs) (replicate 32 0)) 0 i h
-
-padded-length : (xs : List ℕ) → length xs ≤ 32 → length (padded xs) ≡ 32
-padded-length xs h =
-    omega (arith, length-append xs (drop (length xs) (replicate 32 0)), length-drop (length xs) (replicate {A = ℕ} 32 0), length-replicate {A = ℕ} 32 0)
-
-records-padded : (s starts lens : List ℕ) (k : ℕ) → k ≤ length starts → k ≤ length lens
-    → recordsAt s (padded starts) (padded lens) k ≡ recordsAt s starts lens k
-records-padded s starts lens k h g =
-    records-same s (padded starts) (padded lens) starts lens k
-    (λ i less. padded-at starts i (omega arith)) (λ i less. padded-at lens i (omega arith))
+-- the records at places in an array
+records-in32 : (s starts lens : List ℕ) (k : ℕ) → k ≤ length starts → k ≤ length lens
+    → recordsAt s (in32 starts) (in32 lens) k ≡ recordsAt s starts lens k
+records-in32 s starts lens k h g =
+    records-same s (in32 starts) (in32 lens) starts lens k
+    (λ i less. in32-at starts i (omega arith)) (λ i less. in32-at lens i (omega arith))
 
 -- no places, for a reason
 unlent-to : (s starts lens : List ℕ) (why : Refusal) → Refused why ≡ lentWhy (lent s starts lens) → LentTo s starts lens (unlentOf why)
@@ -213,27 +208,27 @@ module _ (s starts lens : List ℕ) (t : Bool) (is : t ≡ allWithin s starts le
         unlent-to s starts lens TooManyItems
         (sym (ap lentWhy lent-some ∙ rw (records-length s starts lens (length starts), lt-leb (length starts) 32 h)))
 
-    module _ (few : length starts ≤ 32) (b l : List ℕ) (bs : b ≡ padded starts) (ls : l ≡ padded lens)
+    module _ (few : length starts ≤ 32) (b l : List ℕ) (bs : b ≡ in32 starts) (ls : l ≡ in32 lens)
         (g : Bool) (gs : g ≡ goodAt s b l (length starts)) where
       same-records : recordsAt s b l (length starts) ≡ recordsAt s starts lens (length starts)
       same-records =
           ap₂ (λ (x y : List ℕ). recordsAt s x y (length starts)) bs ls
-          ∙ records-padded s starts lens (length starts) (omega arith) (omega (arith, lent-even))
+          ∙ records-in32 s starts lens (length starts) (omega arith) (omega (arith, lent-even))
 
       all-places : Places s b l (length starts)
       all-places =
           record {
             few = few;
-            starts-all = ap length bs ∙ padded-length starts few;
-            lens-all = ap length ls ∙ padded-length lens (omega (arith, lent-even));
+            starts-all = ap length bs ∙ in32-length starts few;
+            lens-all = ap length ls ∙ in32-length lens (omega (arith, lent-even));
             inside = λ i h.
                 omega (
                   arith,
                   inside-all s starts lens (length starts) (every .1) i h,
                   ap (λ (x : List ℕ). getD x i 0) bs,
-                  padded-at starts i h,
+                  in32-at starts i h,
                   ap (λ (x : List ℕ). getD x i 0) ls,
-                  padded-at lens i (omega (arith, lent-even)),
+                  in32-at lens i (omega (arith, lent-even)),
                 );
           }
 

@@ -2,10 +2,10 @@
 use Prim.Native.Nat.{ℕ, _-_}
 use mathlib.Core.Path.{_≡_}
 use mathlib.Core.Bool.{Bool, cond, _&&_}
-use mathlib.Core.List.{List, [], _∷_, _++_}
+use mathlib.Core.List.{List, [], _∷_}
 use mathlib.Core.Option.{Option, some, none}
 use lib.Dec.{eqb, leb}
-use lib.ListN.{length, drop, replicate}
+use lib.ListN.{length, replicate}
 use Rattle.refusal.specs.declared.Refusal.{Refusal}
 use Rattle.refusal.specs.declared.Refusal.the-variants.{Layout, TooManyItems, ItemRule}
 use Rattle.refusal.specs.declared.Checked.{Checked}
@@ -33,10 +33,6 @@ lent s (a ∷ as′) (n ∷ ns) = cond (within s a n) (next (partAt s a n) (lent
 -- as many starts as lengths, and every place within the bytes
 abbrev pub allWithin : List ℕ → List ℕ → List ℕ → Bool
 allWithin s starts lens = eqb (length starts) (length lens) && insideAt s starts lens (length starts)
-
--- places in an array, zeros behind them
-abbrev pub padded : List ℕ → List ℕ
-padded places = places ++ drop (length places) (replicate 32 0)
 
 -- what records that are lent are refused for: 4 before 5 before 6
 abbrev pub lentWhy : Option (List (List ℕ)) → Checked

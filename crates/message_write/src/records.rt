@@ -2,7 +2,8 @@
 ghost use Prim.Native.Nat.{_≤_};
 ghost use mathlib.Core.Path.{_≡_};
 ghost use lib.ListN.{length};
-ghost use Rattle.message_write.specs.Lent.{allWithin, padded, unlentOf, LentTo};
+ghost use Rattle.message.specs.Report.{in32};
+ghost use Rattle.message_write.specs.Lent.{allWithin, unlentOf, LentTo};
 use refusal::Checked;
 use refusal::Refusal;
 
@@ -72,7 +73,7 @@ fn all_within(bytes: &[u8], starts: &[usize], lens: &[usize]) -> bool
 // At most 32 places, in an array.
 fn copied(places: &[usize]) -> [usize; 32]
     requires { ⌜ length (now places) ≤ 32 ⌝ }
-    ensures { λ r. ⌜ r ≡ padded (now (places .entry)) ⌝ }
+    ensures { λ r. ⌜ r ≡ in32 (now (places .entry)) ⌝ }
 {
     let mut to = [0usize; 32];
     for i in 0..places.len() {

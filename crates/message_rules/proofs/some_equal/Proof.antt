@@ -1,7 +1,7 @@
 -- `message_rules::some_equal` meets its contract. The invariants: before a row, no record of an earlier row is equal to another (`Clear`); in a
 -- row, nor is the row's record to those passed (`Row`). The steps, and the pair that the label leaves at, are laws of `proofs/Pairs.antt`.
 -- The measures are what is left of the count. Assumes nothing.
-use Prim.Native.Nat.{_+_, _-_, _≤_}
+use Prim.Native.Nat.{ℕ, _+_, _-_, _≤_}
 use mathlib.Core.Path.{_≡_, refl, _∙_}
 use mathlib.Core.Bool.{false}
 use lib.ListN.{length, getD}
@@ -22,16 +22,18 @@ Inv-pairs s starts lens count found₀ i₀ found i = (found ≡ false) × Clear
 abbrev μ-pairs : tie.MeasureT-pairs
 μ-pairs s starts lens count found₀ i₀ found i = count - i
 
+-- where the function starts, from a turn of the inner loop, and where a record ends
+abbrev start : tie.In-loop Inv-loop μ-loop Inv-pairs μ-pairs → tie.Start Inv-loop μ-loop Inv-pairs μ-pairs
+start c = c .before .before .before .before .before
+
+abbrev end : tie.In-loop Inv-loop μ-loop Inv-pairs μ-pairs → ℕ → ℕ
+end c k = getD (start c .args .starts .now) k 0 + getD (start c .args .lens .now) k 0
+
 -- the records of the pair lie in the bytes
 fit : (c : tie.In-loop Inv-loop μ-loop Inv-pairs μ-pairs)
-    → (getD (c .before .before .before .before .before .args .starts .now) (c .before .before .before .pairs .i) 0
-    + getD (c .before .before .before .before .before .args .lens .now) (c .before .before .before .pairs .i) 0
-    ≤ length (c .before .before .before .before .before .args .s .now))
-    × (getD (c .before .before .before .before .before .args .starts .now) (c .before .loop .j) 0
-    + getD (c .before .before .before .before .before .args .lens .now) (c .before .loop .j) 0
-    ≤ length (c .before .before .before .before .before .args .s .now))
+    → (end c (c .before .before .before .pairs .i) ≤ length (start c .args .s .now)) × (end c (c .before .loop .j) ≤ length (start c .args .s .now))
 fit c =
-    let p = c .before .before .before .before .before .pre in
+    let p = start c .pre in
     (p .inside (c .before .before .before .pairs .i) (search needs), p .inside (c .before .loop .j) (search needs))
 
 pairs-holds : tie.Need-pairs-holds Inv-loop μ-loop Inv-pairs μ-pairs

@@ -17,12 +17,16 @@ abbrev μ-loop : tie.MeasureT-loop
 mul-next : tie.Need-mul-next Inv-loop μ-loop
 mul-next c = search needs
 
+-- where the function starts, from a turn of the loop
+abbrev start : tie.In-loop Inv-loop μ-loop → tie.Start Inv-loop μ-loop
+start c = c .before .before .before
+
 -- there is room for the next offset
 fit : (c : tie.In-loop Inv-loop μ-loop)
-    → (c .before .before .before .args .at + 4 * c .before .loop .i + 4 ≤ length (c .before .before .before .args .out .now))
-    × (c .before .loop .next + getD (c .before .before .before .args .lens .now) (c .before .loop .i) 0 ≤ length (c .before .before .before .args .out .now))
+    → (start c .args .at + 4 * c .before .loop .i + 4 ≤ length (start c .args .out .now))
+    × (c .before .loop .next + getD (start c .args .lens .now) (c .before .loop .i) 0 ≤ length (start c .args .out .now))
 fit c =
-    let a = c .before .before .before .args in
+    let a = start c .args in
     offsets-fit (a .lens .now) (a .count) (a .at) (a .out .now) _ _ _ (c .before .loop .inv) (c .loop-test .taken)
 
 loop-holds : tie.Need-loop-holds Inv-loop μ-loop

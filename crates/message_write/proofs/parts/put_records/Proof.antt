@@ -15,15 +15,17 @@ Inv-loop bytes starts lens count out₀ at next₀ i₀ out next i = Records byt
 abbrev μ-loop : tie.MeasureT-loop
 μ-loop bytes starts lens count out₀ at next₀ i₀ out next i = count - i
 
+-- where the function starts, from a turn of the loop
+abbrev start : tie.In-loop Inv-loop μ-loop → tie.Start Inv-loop μ-loop
+start c = c .before .before .before .before
+
 -- there is room for the next record, and it is within the bytes
 fit : (c : tie.In-loop Inv-loop μ-loop)
-    → (c .before .loop .next + getD (c .before .before .before .before .args .lens .now) (c .before .loop .i) 0
-    ≤ length (c .before .before .before .before .args .out .now))
-    × (getD (c .before .before .before .before .args .starts .now) (c .before .loop .i) 0
-    + getD (c .before .before .before .before .args .lens .now) (c .before .loop .i) 0
-    ≤ length (c .before .before .before .before .args .bytes .now))
+    → (c .before .loop .next + getD (start c .args .lens .now) (c .before .loop .i) 0 ≤ length (start c .args .out .now))
+    × (getD (start c .args .starts .now) (c .before .loop .i) 0 + getD (start c .args .lens .now) (c .before .loop .i) 0
+    ≤ length (start c .args .bytes .now))
 fit c =
-    let a = c .before .before .before .before .args in
+    let a = start c .args in
     records-fit (a .bytes .now) (a .starts .now) (a .lens .now) (a .count) (a .at) (a .out .now) _ _ _ (c .before .loop .inv) (c .loop-test .taken)
 
 loop-holds : tie.Need-loop-holds Inv-loop μ-loop

@@ -1,16 +1,21 @@
 -- `message_write::records::copied` meets its contract. The invariant: the first `i` places stand in the array (`paste`). The measure is what is left of them.
 -- Assumes nothing.
-use Prim.Native.Nat.{ℕ, _+_, _-_, _≤_}
-use native.Mathlib.Nat.{zero-add}
-use native.Mathlib.Numerals.{add-one}
+use Prim.Native.Nat.{ℕ, zero, suc, _+_, _-_, _≤_}
 use native.Mathlib.Omega.{arith}
 use mathlib.Core.List.{List, _++_}
-use mathlib.Core.Path.{_≡_, _∙_, ap, ap₂, sym}
-use lib.ListN.{length, getD, set, drop, replicate, length-set}
-use lib.Seq.{paste, paste-suc, take-all}
+use mathlib.Core.Path.{_≡_, _∙_, ap, ap₂}
+use lib.ListN.{length, drop, replicate, length-set}
+use lib.Seq.{paste, take-all}
+use Rattle.octets.proofs.Buffers.{copied-next}
 use borrow.Author.Needs.{needs}
 use Rattle.message_write.proofs.records.copied.Statement.{statement}
 use Rattle.message_write.proofs.records.copied.Tie as tie
+
+-- zeros behind some of them
+zeros-behind : (n m : ℕ) → drop {A = ℕ} n (replicate m 0) ≡ replicate (m - n) 0
+zeros-behind zero m = let e : m - 0 ≡ m = omega arith in rw e
+zeros-behind (suc n) zero = let e : 0 - suc n ≡ 0 = omega arith in rw e
+zeros-behind (suc n) (suc m) = let e : suc m - suc n ≡ m - n = omega arith in rw e (zeros-behind n m)
 
 abbrev Inv-loop : tie.InvT-loop
 Inv-loop places to₀ i₀ i-end to i =
@@ -49,10 +54,7 @@ loop-again c =
       search needs,
       search needs,
       simp length-set (search needs),
-      ap (λ (q : List ℕ). set q i (getD places i 0)) (at .loop .inv .4)
-          ∙ ap (λ (n : ℕ). set (paste (replicate 32 0) 0 places i) n (getD places i 0)) (sym (zero-add i))
-          ∙ paste-suc (replicate 32 0) 0 places i 0 (search needs) (search needs)
-          ∙ ap (paste (replicate 32 0) 0 places) (sym (add-one i)),
+      copied-next (at .loop .to) (replicate 32 0) places i _ (search needs) (search needs) (search needs) (at .loop .inv .4),
     )
 
 returns : tie.Need-returns Inv-loop μ-loop
@@ -62,6 +64,7 @@ returns c =
     let last : 0 + at .loop .i ≡ length places = omega arith in
     at .loop .inv .4
     ∙ ap₂ (λ (x : List ℕ) (n : ℕ). x ++ drop n (replicate 32 0)) (take-all (at .loop .i) places (search needs)) last
+    ∙ ap (λ (x : List ℕ). places ++ x) (zeros-behind (length places) 32)
 
 pub copied-spec : {M : Type 1} → statement M
 copied-spec =

@@ -1,19 +1,19 @@
 -- Laws of content ids: 32 bytes; the number that they stand for, by quotient, remainder and reversed bits, and by document 002's own
 -- formula; different keys have different ids; consecutive block numbers have different first two bytes.
 -- Assumes nothing.
-use mathlib.Core.Path.{_≡_, refl, sym, _∙_, ap, ap₂}
+use mathlib.Core.Path.{_≡_, sym, _∙_, ap, ap₂}
 use mathlib.Core.List.{List, [], _∷_, _++_, append-assoc}
-use Prim.Native.Nat.{ℕ, zero, suc, _+_, _*_, _/_, _%_, _^_, _<_, _≤_}
+use Prim.Native.Nat.{ℕ, _+_, _*_, _/_, _%_, _^_, _<_}
 use native.Mathlib.Nat.{add-zero, mul-one, mul-assoc, add-mul, lt-of-lt-of-le, mul-lt-mul-of-pos-right}
 use native.Mathlib.Omega.{arith}
 use lib.Arith.{digits-div, digits-mod}
 use lib.Dec.{lit≤}
 use lib.Pow.{pow-pos}
 use lib.Bits.{bitOr, or-shifted}
-use lib.ListN.{length, length-append, replicate, getD, take, drop}
+use lib.ListN.{length, length-append, replicate, take}
 use lib.Seq.{take-at}
 use Rattle.octets.specs.Bytes.{Bytes, be, le, beBytes}
-use Rattle.octets.proofs.Numbers.{bytes-append, bytes-zeros, bytes-at, bytes-drop, be-append, be-zeros, be-beBytes-below, beBytes-length, beBytes-bytes, le-lt, le-inj}
+use Rattle.octets.proofs.Numbers.{bytes-append, bytes-zeros, be-append, be-zeros, be-beBytes-below, beBytes-length, beBytes-bytes, le-lt, le-inj}
 use Rattle.content_key.specs.Id.{reverseBits, idOf}
 use Rattle.content_key.specs.Key.{keyId}
 use Rattle.content_key.proofs.Reversal.{reverse-lt, reverse-add, reverse-inj, reverse-zero}

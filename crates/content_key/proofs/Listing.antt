@@ -3,10 +3,10 @@
 -- Assumes nothing.
 use mathlib.Core.Path.{_≡_, refl, sym, _∙_, ap, subst⁻¹}
 use mathlib.Core.List.{List, [], _∷_, _++_, map}
-use Prim.Native.Nat.{ℕ, zero, suc, _+_, _*_, _/_, _%_, _^_, _<_, _≤_}
+use Prim.Native.Nat.{ℕ, _+_, _*_, _/_, _%_, _<_}
 use native.Mathlib.Omega.{arith}
 use lib.ListN.{length, length-map, replicate, getD, drop}
-use Rattle.octets.specs.Bytes.{Bytes, be, le, beBytes}
+use Rattle.octets.specs.Bytes.{Bytes, le, beBytes}
 use Rattle.octets.proofs.Numbers.{beBytes-be, bytes-drop, bytes-at}
 use Rattle.content_key.specs.Id.{reverseBits, idOf}
 use Rattle.content_key.specs.Key.{keyId}

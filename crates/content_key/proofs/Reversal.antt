@@ -1,13 +1,13 @@
 -- The reversal of bits: its range, the reversal of a number of several parts, that it is injective, and that reversing the bits of a
 -- run of bytes reverses each byte and takes them the other way round.
 -- Assumes nothing.
-use mathlib.Core.Path.{_≡_, refl, sym, _∙_, ap, ap₂}
+use mathlib.Core.Path.{_≡_, refl, sym, _∙_, ap}
 use mathlib.Core.List.{List, [], _∷_, map}
-use Prim.Native.Nat.{ℕ, zero, suc, _+_, _*_, _/_, _%_, _^_, _<_, _≤_}
-use native.Mathlib.Nat.{mul-comm, mul-assoc, mul-add, add-mul, add-assoc, zero-mul, zero-add, suc-add, pow-suc, pow-succ', mod-lt, div-one, div-div-eq-div-mul, add-mul-div-left, add-mul-mod-self-left}
+use Prim.Native.Nat.{ℕ, zero, suc, _+_, _*_, _/_, _%_, _^_, _<_}
+use native.Mathlib.Nat.{mul-assoc, add-mul, zero-mul, zero-add, suc-add, pow-succ', div-one, div-div-eq-div-mul, add-mul-div-left, add-mul-mod-self-left}
 use native.Mathlib.Omega.{arith}
 use lib.Arith.{digits-lt, digits-div, digits-mod}
-use lib.Pow.{pow-pos, pow-add}
+use lib.Pow.{pow-add}
 use lib.ListN.{length, length-map}
 use Rattle.octets.specs.Bytes.{Bytes, be, le}
 use Rattle.content_key.specs.Id.{reverseBits}

@@ -1,14 +1,13 @@
 -- Content keys: nine bytes, a selector and then the block number, lightest byte first. What any bytes come to as a key, the id
 -- of a key, and whether a node is interested in it.
-use Prim.Native.Nat.{ℕ, _<_, _≤_}
-use mathlib.Core.Path.{_≡_}
+use Prim.Native.Nat.{ℕ}
 use mathlib.Core.Bool.{Bool, cond}
 use mathlib.Core.List.{List}
 use lib.Dec.{leb, eqb}
 use lib.ListN.{length, getD, drop}
 use Rattle.refusal.specs.Says.{saysOf}
 use Rattle.refusal.specs.Outcome.{Outcome, given, refusal, refused, mapOutcome}
-use Rattle.octets.specs.Bytes.{Bytes, le}
+use Rattle.octets.specs.Bytes.{le}
 use Rattle.distance.specs.Distance.{withinOf}
 use Rattle.content_key.specs.Id.{idOf}
 use Rattle.content_key.specs.declared.Interest.{Interest}

@@ -1,7 +1,5 @@
 // Content keys of the History Network: a key from any bytes, its content id, and the interest test.
-ghost use Prim.Native.Nat.{_≤_};
 ghost use mathlib.Core.Path.{_≡_};
-ghost use mathlib.Core.List.{List};
 ghost use Rattle.refusal.specs.Outcome.{outcome, orZeros};
 ghost use Rattle.content_key.specs.Id.{reverseBits};
 ghost use Rattle.content_key.specs.Key.{keyOf, keyId, contentIdOf, interestedIn, interestOf};

@@ -1,7 +1,7 @@
 -- What one turn of each loop does, of the pass that tests the characters and of the two that write; and what each way out
 -- of `encode` and `decode` answers and leaves.
 use Prim.Native.Nat.{ℕ, zero, suc, _+_, _-_, _*_, _/_, _%_, _≤_, _<_}
-use mathlib.Core.Bool.{Bool, true, false, cond, _&&_, and-eq-true-iff, false≢true}
+use mathlib.Core.Bool.{Bool, true, false, cond, and-eq-true-iff}
 use mathlib.Core.List.{List, [], _∷_, _++_}
 use mathlib.Core.Option.{Option, some, none}
 use mathlib.Core.Path.{_≡_, refl, ap, ap₂, sym, _∙_}
@@ -11,7 +11,7 @@ use native.Mathlib.Omega.{arith}
 use lib.ListN.{length, getD, take, drop, set}
 use lib.Seq.{drop-cons, take-length, paste, paste-suc}
 use lib.Dec.{leb}
-use borrow.Author.Tests.{le-leb, lt-leb, leb-true}
+use borrow.Author.Tests.{le-leb, lt-leb}
 use Rattle.hex.specs.Digits.{digitOf, valueOf, textOf, bytesOf, isDigit, numberOf, allDigits}
 use Rattle.octets.specs.Buffer.{hasRoom}
 use Rattle.octets.proofs.Buffers.{too-long, fits, room-ends, not-placed, placed-all}

@@ -27,8 +27,8 @@ module _ (limit : ℕ) (v : View) where
   pub radius-bad : good limit v ≡ false → radiusFor limit v ≡ refused 0
   radius-bad g = rw g
 
-  pub holds-bad : (bytes : List ℕ) → good limit v ≡ false → holdsFor limit v bytes ≡ refused 0
-  holds-bad bytes g = rw g
+  pub holds-bad : (bytes : List ℕ) (n : ℕ) → good limit v ≡ false → n ≡ 0 → refused n ≡ holdsFor limit v bytes
+  holds-bad bytes n g e = ap refused e ∙ sym (rw g)
 
   -- with room left the radius is the cap
   pub radius-room : good limit v ≡ true → length (v .keys) < limit → radiusFor limit v ≡ given (v .cap)

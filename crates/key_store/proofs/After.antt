@@ -20,7 +20,7 @@ use Rattle.key_index.specs.Good.{awayFrom, good, lastOf}
 use Rattle.key_index.specs.Keys.{Each, NineBytes}
 use Rattle.key_index.proofs.Each.{each-member}
 use Rattle.key_index.proofs.Rules.{good-facts, facts-good}
-use Rattle.key_store.specs.Store.{Storing, refused, stored, evicted, storeOf, nextOf}
+use Rattle.key_store.specs.Store.{Storing, storeOf, nextOf}
 use Rattle.key_store.specs.Cases.{OfBytes, Fresh, Stores, bad, no-length, no-selector, no-content, held, beyond, room, full}
 use Rattle.key_store.proofs.Facts.{sorted-near, near-sorted}
 use Rattle.key_store.proofs.Cases.{store-cases}

@@ -4,7 +4,7 @@ use Prim.Native.Nat.{ℕ, _≤_, _<_}
 use native.Mathlib.Omega.{arith}
 use mathlib.Core.Path.{_≡_, refl, sym, ap, subst, _∙_}
 use mathlib.Core.Bool.{Bool, true, false, cond, true≢false}
-use mathlib.Core.List.{List, [], _∷_, _++_}
+use mathlib.Core.List.{List}
 use lib.Dec.{leb, ltb, eqb}
 use lib.ListN.{length}
 use borrow.Author.Tests.{eqb-true, eqb-false, leb-true, leb-false, ltb-true, ltb-false}
@@ -15,13 +15,11 @@ use Rattle.octets.proofs.Equal.{holds-member, member-holds}
 use Rattle.content_key.specs.Key.{selectorOf}
 use Rattle.content_key.proofs.Keys.{key-length, key-selector, key-given}
 use Rattle.rlp.specs.Content.{acceptable}
-use Rattle.nearest.specs.Sorted.{_among_, distances}
-use Rattle.nearest.specs.Insert.{insert, offer}
-use Rattle.key_index.specs.View.{View, withKeys}
-use Rattle.key_index.specs.Good.{awayFrom, good, lastOf, radiusOf}
+use Rattle.key_index.specs.View.{View}
+use Rattle.key_index.specs.Good.{awayFrom, good, radiusOf}
 use Rattle.key_index.specs.Calls.{isHeld}
 use Rattle.key_index.proofs.Rules.{good-facts}
-use Rattle.key_store.specs.Store.{Storing, refused, stored, evicted, putOf, admitOf, storeOf}
+use Rattle.key_store.specs.Store.{putOf, admitOf, storeOf}
 use Rattle.key_store.specs.Cases.{OfBytes, Asked, Fresh, Stores, bad, no-length, no-selector, no-content, held, beyond, room, full}
 use Rattle.key_store.proofs.Answers.{store-bad, store-key, store-content, store-admit, admit-held, admit-far, admit-put}
 use Rattle.key_store.proofs.Facts.{new-distance, reach-room, nearer-last, last-apart}

@@ -1,7 +1,7 @@
 -- Storing a key with its content, on the view of an index, over the limit on its keys. The tests come in document 01's order: 0, 7, 8,
 -- 9, 11, 10.
 use Prim.Native.Nat.{ℕ}
-use mathlib.Core.Bool.{Bool, cond}
+use mathlib.Core.Bool.{cond}
 use mathlib.Core.List.{List}
 use lib.Dec.{leb, ltb}
 use lib.ListN.{length}

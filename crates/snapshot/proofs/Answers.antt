@@ -1,34 +1,19 @@
 -- What the tests on one line answer, by what led to each return. Assumes nothing.
-use Prim.Native.Nat.{ℕ, suc, _≤_, _<_}
-use native.Mathlib.Omega.{arith}
+use Prim.Native.Nat.{ℕ, _≤_, _<_}
 use mathlib.Core.Path.{_≡_, refl, sym, ap, ap₂, _∙_}
-use mathlib.Core.Bool.{Bool, true, false, not, _&&_, and-false}
+use mathlib.Core.Bool.{Bool, true, false, _&&_, and-false}
 use mathlib.Core.List.{List}
 use lib.Dec.{eqb, leb, leb·zero}
 use lib.ListN.{getD}
-use borrow.Author.Tests.{le-leb, lt-leb, leb-true, leb-false, eq-eqb, ne-eqb}
+use borrow.Author.Tests.{le-leb, lt-leb, eq-eqb, ne-eqb}
 use Rattle.octets.specs.Bytes.{be}
 use Rattle.distance.proofs.Tested.{most-is}
 use Rattle.content_key.specs.Key.{selectorOf}
 use Rattle.snapshot.specs.Parts.{lowest, keyPasses}
 
--- over is not at most
-over : (a b : ℕ) → not (leb a b) ≡ leb (suc b) a
-over a b = go (leb a b) refl
-  where
-    go : (t : Bool) → leb a b ≡ t → not t ≡ leb (suc b) a
-    go true e = sym (lt-leb (suc b) a (omega (arith, leb-true a b e)))
-    go false e = sym (le-leb (suc b) a (omega (arith, leb-false a b e)))
-
 -- the first key is far enough
 pub first-farther : (first : Bool) (far last : List ℕ) → first ≡ true → true ≡ leb (lowest first last) (be far)
 first-farther first far last e = sym (ap (λ (t : Bool). leb (lowest t last) (be far)) e ∙ leb·zero (be far))
-
--- another one where it is not at most as far as the one before
-pub later-farther : (first : Bool) (far last : List ℕ) (t : Bool) → first ≡ false → t ≡ leb (be far) (be last)
-    → not t ≡ leb (lowest first last) (be far)
-later-farther first far last t e q =
-    ap not q ∙ over (be far) (be last) ∙ ap (λ (f : Bool). leb (lowest f last) (be far)) (sym e)
 
 module _ (key far : List ℕ) (first : Bool) (last cap : List ℕ) where
   -- a bad selector

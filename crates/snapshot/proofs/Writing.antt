@@ -1,6 +1,6 @@
 -- A text written piece by piece into a buffer. `Written` is what holds between two pieces: the buffer starts with the text so far, and its
 -- rest is as it was. The laws are one piece, one line feed, the lines, the turns of the loop of `save`, and what `save` answers. Assumes nothing.
-use Prim.Native.Nat.{ℕ, zero, suc, _+_, _-_, _*_, _≤_, _<_}
+use Prim.Native.Nat.{ℕ, zero, suc, _+_, _*_, _≤_, _<_}
 use native.Mathlib.Numerals.{add-one}
 use native.Mathlib.Omega.{arith}
 use mathlib.Core.Path.{_≡_, refl, sym, ap, ap₂, subst, subst₂, _∙_}

@@ -18,7 +18,7 @@ is-good-requires : tie.Need-is-good-requires
 is-good-requires c κs = search needs
 
 returns : tie.Need-returns
-returns c = sym (holds-bad 240 _ _ (sym (c .before .is-good .ensures) ∙ not-true _ (c .if1 .taken)))
+returns c = holds-bad 240 _ _ _ (sym (c .before .is-good .ensures) ∙ not-true _ (c .if1 .taken)) (search needs)
 
 key-requires : tie.Need-key-requires
 key-requires c κs = search needs

@@ -27,7 +27,7 @@ refused-writes why d e = record { answered = sym (ap counted e); buffer = sym (a
 pub writes-as : {o o′ : Outcome (List ℕ)} {r : Wrote} {d a : List ℕ} → Writes o′ r d a → o ≡ o′ → Writes o r d a
 writes-as {r = r} {d = d} {a = a} w e = subst (λ (k : Outcome (List ℕ)). Writes k r d a) (sym e) w
 
--- the tests of the size
+-- the tests of the size, and the answer that each gives
 pub size-long : (n room : ℕ) → 1280 < n → (k : Checked) → k ≡ Refused LongMessage → k ≡ sizeWhy n room
 size-long n room h k e = rw (lt-ltb 1280 n h) e
 

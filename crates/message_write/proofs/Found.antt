@@ -1,5 +1,5 @@
 -- What the rules and the bytes of the two messages with records come to, once the records that are lent have their answer. Assumes nothing.
-use Prim.Native.Nat.{ℕ, _+_, _≤_, _<_}
+use Prim.Native.Nat.{ℕ, zero, suc, _+_, _≤_, _<_}
 use native.Mathlib.Omega.{arith}
 use mathlib.Core.Path.{_≡_, refl, sym, ap, _∙_}
 use mathlib.Core.Bool.{Bool, true, false, cond, _&&_, and-comm}
@@ -7,7 +7,7 @@ use mathlib.Core.List.{List, [], _∷_, _++_, append-nil}
 use mathlib.Core.Option.{Option, some, none}
 use lib.Dec.{leb, ltb}
 use lib.ListN.{length, getD}
-use borrow.Author.Tests.{le-leb, lt-leb, lt-ltb}
+use borrow.Author.Tests.{le-leb, lt-leb, lt-ltb, leb-true}
 use Rattle.refusal.specs.Says.{saysOf}
 use Rattle.refusal.specs.Outcome.{Outcome, refusal, refused}
 use Rattle.refusal.proofs.Outcomes.{same-refusal, accepted-not}
@@ -25,7 +25,6 @@ use Rattle.message_rules.proofs.Present.{things-three}
 use Rattle.message_write.specs.Lent.{lent, lentWhy, LentTo}
 use Rattle.message_write.specs.Write.{fitting, ruledBytes, bytesForLent}
 use Rattle.message_write.specs.declared.records.Lent.{Lent}
-use Rattle.message_write.proofs.Lists.{size-at}
 
 -- what is left of the rules once the records have their answer
 why-refused : (few good more : Bool) (m : Message) (room : ℕ) (why : Refusal)
@@ -46,6 +45,14 @@ why-good : (few good : Bool) → cond few (cond good Accepted (Refused ItemRule)
 why-good few true e = refl
 why-good false false e = accepted-not _ (sym e)
 why-good true false e = accepted-not _ (sym e)
+
+-- records whose sizes are good have at most 300 bytes each
+size-at : (rs : List (List ℕ)) → recordSizes rs ≡ true → (i : ℕ) → i < length rs → length (getD rs i []) ≤ 300
+unfolding recordSizes
+size-at [] e i h = absurd (omega arith)
+size-at (r ∷ rs) e zero h =
+    leb-true (length r) 300 (both (leb 1 (length r)) (leb (length r) 300) (both (leb 1 (length r) && leb (length r) 300) (recordSizes rs) e .0) .1)
+size-at (r ∷ rs) e (suc i) h = size-at rs (both (leb 1 (length r) && leb (length r) 300) (recordSizes rs) e .1) i (omega arith)
 
 -- records that are lent, and their answer
 module _ (s starts lens : List ℕ) (r : Lent) (l : LentTo s starts lens r) where

@@ -1,7 +1,7 @@
 pub mod Offsets
 pub mod Puts
 pub mod Answers
-pub mod Lists
+pub mod Sums
 pub mod Loans
 pub mod Turns
 pub mod Wholes

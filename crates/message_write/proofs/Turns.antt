@@ -13,7 +13,7 @@ use Rattle.message.specs.Reading.{partAt, recordsAt}
 use Rattle.message_rules.specs.Good.{Places}
 use Rattle.message_rules.proofs.Places.{part-length, records-length}
 use Rattle.message_write.specs.Parts.{Put, sumTo, offsetsTo}
-use Rattle.message_write.proofs.Lists.{sum-none, sum-more, sum-rise}
+use Rattle.message_write.proofs.Sums.{sum-none, sum-more, sum-rise}
 use Rattle.message_write.proofs.Puts.{put-placed, put-none, put-more}
 
 -- one record more

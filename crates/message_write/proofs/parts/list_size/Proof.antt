@@ -4,7 +4,7 @@ use Prim.Native.Nat.{_+_, _*_, _-_, _≤_}
 use native.Mathlib.Omega.{arith}
 use mathlib.Core.Path.{_≡_, ap}
 use Rattle.message_write.specs.Parts.{sumTo}
-use Rattle.message_write.proofs.Lists.{sum-none, sum-more}
+use Rattle.message_write.proofs.Sums.{sum-none, sum-more}
 use borrow.Author.Needs.{needs}
 use Rattle.message_write.proofs.parts.list_size.Statement.{statement}
 use Rattle.message_write.proofs.parts.list_size.Tie as tie

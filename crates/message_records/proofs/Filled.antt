@@ -15,7 +15,7 @@ use Rattle.message.specs.Report.{in32, gaps, startsOf, lensOf}
 use Rattle.message.specs.Reading.{partAt, recordsAt}
 use Rattle.message.proofs.Records.{between-length, offsets-count}
 use Rattle.message_rules.specs.Good.{Places}
-use Rattle.message_rules.proofs.Places.{part-length, records-length, record-at}
+use Rattle.message_rules.proofs.Places.{part-length, records-length, record-at, in32-length, in32-at}
 use Rattle.message_records.specs.Places.{offsetAt, placesAt}
 use Rattle.message_records.specs.declared.Verdict.the-variants.{Good}
 use Rattle.message_records.proofs.Offsets.{part-drop, offsets-rise}
@@ -57,13 +57,6 @@ filled-is f n a ns w few is same =
   where
     front : length (take n a) ≡ n
     front = length-take-le n a (omega (arith, w .all))
-
--- those are 32, and start with the list
-in32-length : (ns : List ℕ) → length ns ≤ 32 → length (in32 ns) ≡ 32
-in32-length ns h = omega (arith, length-append ns (replicate (32 - length ns) 0), length-replicate {A = ℕ} (32 - length ns) 0)
-
-in32-at : (ns : List ℕ) (k : ℕ) → k < length ns → getD (in32 ns) k 0 ≡ getD ns k 0
-in32-at ns k h = List·getD-append ns (replicate (32 - length ns) 0) 0 k h
 
 -- each record goes from its offset up to the next, the last one up to the list's end
 between-at : (l os : List ℕ) (end k : ℕ) → length l ≡ end → k < length os

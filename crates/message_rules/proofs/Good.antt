@@ -6,13 +6,14 @@ use native.Mathlib.Omega.{arith}
 use mathlib.Core.Path.{_≡_, refl, sym, _∙_}
 use mathlib.Core.Bool.{Bool, true, false, not, _&&_, and-false, Bool·not-not}
 use mathlib.Core.List.{List}
-use lib.Dec.{leb}
+use lib.Dec.{eqb, leb}
 use lib.ListN.{length, getD, take}
-use borrow.Author.Tests.{le-leb, lt-leb, leb-true, not-true, not-false}
+use lib.Seq.{getD-take, length-take-le}
+use borrow.Author.Tests.{le-leb, lt-leb, leb-true, eq-eqb, ne-eqb, not-true, not-false}
 use Rattle.message.specs.Rules.{sameBytes, allDifferent, goodRecords}
 use Rattle.message.specs.Reading.{recordsAt}
 use Rattle.message.proofs.Tests.{both}
-use Rattle.message_rules.specs.Good.{insideAt, goodAt, sizesGood, Places}
+use Rattle.message_rules.specs.Good.{insideAt, goodAt, sizesGood, allWithin, Places}
 use Rattle.message_rules.proofs.Lengths.{sizes-of}
 
 module _ (s starts lens : List ℕ) where
@@ -63,6 +64,19 @@ module _ (s starts lens : List ℕ) where
         le-leb (getD starts n 0 + getD lens n 0) (length s) (all n (omega arith)),
       )
 
+  -- starts and lengths differ in number
+  pub within-uneven : (length starts ≡ length lens → ⊥) → false ≡ allWithin s starts lens
+  within-uneven ne = rw (ne-eqb (length starts) (length lens) ne)
+
+  module _ (same : length starts ≡ length lens) where
+    -- a place is not within the bytes
+    pub within-outside : (i : ℕ) → i < length starts → length s < getD starts i 0 + getD lens i 0 → false ≡ allWithin s starts lens
+    within-outside i h g = rw (eq-eqb (length starts) (length lens) same, outside-at (length starts) i h g)
+
+    -- every place is
+    pub within-all : insideAt s starts lens (length starts) ≡ true → true ≡ allWithin s starts lens
+    within-all e = rw (eq-eqb (length starts) (length lens) same, e)
+
   module _ (n : ℕ) where
     -- more than 32 are not good
     pub good-many : 32 < n → false ≡ goodAt s starts lens n
@@ -89,3 +103,17 @@ module _ (s starts lens : List ℕ) where
           → not u ≡ goodAt s starts lens n
       good-equal e u us =
           sym (good-inside p ∙ rw (← sizes-of s starts lens n p, ← is, not-false t e, us, Bool·not-not))
+
+-- the first places of two arrays, as lists of their own
+module _ (s starts lens : List ℕ) (n : ℕ) (long : n ≤ length starts) (same : length starts ≡ length lens) where
+  first-inside : (i : ℕ) → i ≤ n → insideAt s (take n starts) (take n lens) i ≡ insideAt s starts lens i
+  unfolding insideAt
+  first-inside zero h = refl
+  first-inside (suc i) h =
+      rw (first-inside i (omega arith), getD-take n starts i 0 (omega arith), getD-take n lens i 0 (omega arith))
+
+  pub first-within : allWithin s (take n starts) (take n lens) ≡ insideAt s starts lens n
+  first-within =
+      let a = length-take-le n starts long in
+      let b = length-take-le n lens (omega arith) in
+      rw (a, b, eq-eqb n n refl) (first-inside n (omega arith))

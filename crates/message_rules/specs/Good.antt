@@ -3,7 +3,7 @@ use Prim.Native.Nat.{ℕ, zero, suc, _+_, _≤_, _<_}
 use mathlib.Core.Path.{_≡_}
 use mathlib.Core.Bool.{Bool, true, _&&_}
 use mathlib.Core.List.{List, [], _∷_}
-use lib.Dec.{leb}
+use lib.Dec.{eqb, leb}
 use lib.ListN.{length, getD}
 use Rattle.message.specs.Rules.{goodRecords}
 use Rattle.message.specs.Reading.{recordsAt}
@@ -12,6 +12,10 @@ use Rattle.message.specs.Reading.{recordsAt}
 unfoldable pub insideAt : List ℕ → List ℕ → List ℕ → ℕ → Bool
 insideAt s starts lens zero = true
 insideAt s starts lens (suc n) = insideAt s starts lens n && leb (getD starts n 0 + getD lens n 0) (length s)
+
+-- as many starts as lengths, and every place within the bytes
+abbrev pub allWithin : List ℕ → List ℕ → List ℕ → Bool
+allWithin s starts lens = eqb (length starts) (length lens) && insideAt s starts lens (length starts)
 
 -- at most 32 records, each within the bytes, each of 1 to 300 bytes, no two equal byte for byte
 unfoldable pub goodAt : List ℕ → List ℕ → List ℕ → ℕ → Bool

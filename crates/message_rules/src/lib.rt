@@ -7,7 +7,7 @@ ghost use lib.ListN.{length, take, drop};
 ghost use Rattle.message.specs.Records.{offsetOf};
 ghost use Rattle.message.specs.Rules.{allDifferent, sameBytes, one};
 ghost use Rattle.message.specs.Reading.{recordsAt};
-ghost use Rattle.message_rules.specs.Good.{insideAt, goodAt, sizesGood, Places};
+ghost use Rattle.message_rules.specs.Good.{goodAt, sizesGood, allWithin, Places};
 ghost use Rattle.message_rules.specs.Things.{thingsOf};
 
 // The number of the four bytes from index `at` on, lightest first; bytes past the end count as 0.
@@ -53,7 +53,7 @@ pub fn good_records(bytes: &[u8], starts: [usize; 32], lens: [usize; 32], count:
     if 32 < count {
         return false;
     }
-    if !inside(bytes, &starts, &lens, count) {
+    if !all_within(bytes, &starts[..count], &lens[..count]) {
         return false;
     }
     if !sizes(&lens, count) {
@@ -62,16 +62,19 @@ pub fn good_records(bytes: &[u8], starts: [usize; 32], lens: [usize; 32], count:
     !some_equal(bytes, &starts, &lens, count)
 }
 
-// Every place lies in the bytes. No sum is made: it could wrap.
-fn inside(s: &[u8], starts: &[usize; 32], lens: &[usize; 32], count: usize) -> bool
-    requires { ⌜ (length (now starts) ≡ 32) × (length (now lens) ≡ 32) × (count ≤ 32) ⌝ }
-    ensures { λ r. ⌜ r ≡ insideAt (now (s .entry)) (now (starts .entry)) (now (lens .entry)) count ⌝ }
+// As many starts as lengths, and every place within the bytes. No sum is made: it could wrap.
+pub fn all_within(bytes: &[u8], starts: &[usize], lens: &[usize]) -> bool
+    ensures { λ r. ⌜ r ≡ allWithin (now (bytes .entry)) (now (starts .entry)) (now (lens .entry)) ⌝ }
 {
-    for i in 0..count {
-        if s.len() < starts[i] {
+    if starts.len() != lens.len() {
+        return false;
+    }
+    let all = starts.len();
+    for i in 0..all {
+        if bytes.len() < starts[i] {
             return false;
         }
-        if s.len() - starts[i] < lens[i] {
+        if bytes.len() - starts[i] < lens[i] {
             return false;
         }
     }

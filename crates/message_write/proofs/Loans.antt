@@ -20,26 +20,12 @@ use Rattle.message.specs.Decode.{mapSome}
 use Rattle.message.specs.Reading.{partAt, recordsAt}
 use Rattle.message.specs.Report.{in32}
 use Rattle.message.proofs.Tests.{both, passed}
-use Rattle.message_rules.specs.Good.{insideAt, goodAt, Places}
+use Rattle.message_rules.specs.Good.{insideAt, goodAt, allWithin, Places}
 use Rattle.message_rules.proofs.Places.{in32-length, in32-at, records-length}
 use Rattle.message_rules.proofs.Good.{outside-at, inside-all, all-inside, good-inside}
 use Rattle.message_write.specs.declared.records.Lent.{Lent}
-use Rattle.message_write.specs.Lent.{within, lent, allWithin, lentWhy, unlentOf, LentTo}
+use Rattle.message_write.specs.Lent.{within, lent, lentWhy, unlentOf, LentTo}
 use Rattle.refusal.proofs.Outcomes.{accepted-not}
-
-module _ (s starts lens : List ℕ) where
-  -- starts and lengths differ in number
-  pub within-uneven : (length starts ≡ length lens → ⊥) → false ≡ allWithin s starts lens
-  within-uneven ne = rw (ne-eqb (length starts) (length lens) ne)
-
-  module _ (same : length starts ≡ length lens) where
-    -- a place is not within the bytes
-    pub within-outside : (i : ℕ) → i < length starts → length s < getD starts i 0 + getD lens i 0 → false ≡ allWithin s starts lens
-    within-outside i h g = rw (eq-eqb (length starts) (length lens) same, outside-at s starts lens (length starts) i h g)
-
-    -- every place is
-    pub within-all : insideAt s starts lens (length starts) ≡ true → true ≡ allWithin s starts lens
-    within-all e = rw (eq-eqb (length starts) (length lens) same, e)
 
 -- a place is within the bytes where its end is
 within-sum : (s : List ℕ) (a n : ℕ) → within s a n ≡ leb (a + n) (length s)

@@ -4,7 +4,7 @@ use mathlib.Core.Path.{_≡_}
 use mathlib.Core.Bool.{Bool, cond, _&&_}
 use mathlib.Core.List.{List, [], _∷_}
 use mathlib.Core.Option.{Option, some, none}
-use lib.Dec.{eqb, leb}
+use lib.Dec.{leb}
 use lib.ListN.{length, replicate}
 use Rattle.refusal.specs.declared.Refusal.{Refusal}
 use Rattle.refusal.specs.declared.Refusal.the-variants.{Layout, TooManyItems, ItemRule}
@@ -12,7 +12,7 @@ use Rattle.refusal.specs.declared.Checked.{Checked}
 use Rattle.refusal.specs.declared.Checked.the-variants.{Accepted, Refused}
 use Rattle.message.specs.Rules.{goodRecords}
 use Rattle.message.specs.Reading.{partAt, recordsAt}
-use Rattle.message_rules.specs.Good.{insideAt, Places}
+use Rattle.message_rules.specs.Good.{Places}
 use Rattle.message_write.specs.declared.records.Lent.{Lent}
 
 -- a record's place lies in the bytes lent
@@ -29,10 +29,6 @@ lent s (a ∷ as′) (n ∷ ns) = cond (within s a n) (next (partAt s a n) (lent
     next : List ℕ → Option (List (List ℕ)) → Option (List (List ℕ))
     next r none = none
     next r (some rs) = some (r ∷ rs)
-
--- as many starts as lengths, and every place within the bytes
-abbrev pub allWithin : List ℕ → List ℕ → List ℕ → Bool
-allWithin s starts lens = eqb (length starts) (length lens) && insideAt s starts lens (length starts)
 
 -- what records that are lent are refused for: 4 before 5 before 6
 abbrev pub lentWhy : Option (List (List ℕ)) → Checked

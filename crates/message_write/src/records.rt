@@ -3,7 +3,7 @@ ghost use Prim.Native.Nat.{_≤_};
 ghost use mathlib.Core.Path.{_≡_};
 ghost use lib.ListN.{length};
 ghost use Rattle.message.specs.Report.{in32};
-ghost use Rattle.message_write.specs.Lent.{allWithin, unlentOf, LentTo};
+ghost use Rattle.message_write.specs.Lent.{unlentOf, LentTo};
 use refusal::Checked;
 use refusal::Refusal;
 
@@ -19,7 +19,7 @@ pub(crate) struct Lent {
 pub(crate) fn lent_records(bytes: &[u8], starts: &[usize], lens: &[usize]) -> Lent
     ensures { λ r. ⌜ LentTo (now (bytes .entry)) (now (starts .entry)) (now (lens .entry)) r ⌝ }
 {
-    if !all_within(bytes, starts, lens) {
+    if !message_rules::all_within(bytes, starts, lens) {
         return unlent(Refusal::Layout);
     }
     let count = starts.len();
@@ -49,25 +49,6 @@ fn unlent(why: Refusal) -> Lent
         starts: [0usize; 32],
         lens: [0usize; 32],
     }
-}
-
-// As many starts as lengths, and every place within the bytes, also past the 32nd. No sum is made: it could wrap.
-fn all_within(bytes: &[u8], starts: &[usize], lens: &[usize]) -> bool
-    ensures { λ r. ⌜ r ≡ allWithin (now (bytes .entry)) (now (starts .entry)) (now (lens .entry)) ⌝ }
-{
-    if starts.len() != lens.len() {
-        return false;
-    }
-    let all = starts.len();
-    for i in 0..all {
-        if bytes.len() < starts[i] {
-            return false;
-        }
-        if bytes.len() - starts[i] < lens[i] {
-            return false;
-        }
-    }
-    true
 }
 
 // At most 32 places, in an array.

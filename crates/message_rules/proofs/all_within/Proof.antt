@@ -1,16 +1,15 @@
--- `message_write::records::all_within` meets its contract. The invariant: there are as many starts as lengths, and the places that were passed lie in the
+-- `message_rules::all_within` meets its contract. The invariant: there are as many starts as lengths, and the places that were passed lie in the
 -- bytes. One that does not decides. The measure is what is left of the places. Assumes nothing.
 use Prim.Native.Nat.{_-_, _≤_}
 use native.Mathlib.Omega.{arith}
 use mathlib.Core.Path.{_≡_, ap, _∙_}
 use mathlib.Core.Bool.{true}
 use lib.ListN.{length}
 use Rattle.message_rules.specs.Good.{insideAt}
-use Rattle.message_rules.proofs.Good.{inside-none, inside-more}
-use Rattle.message_write.proofs.Loans.{within-uneven, within-outside, within-all}
+use Rattle.message_rules.proofs.Good.{inside-none, inside-more, within-uneven, within-outside, within-all}
 use borrow.Author.Needs.{needs}
-use Rattle.message_write.proofs.records.all_within.Statement.{statement}
-use Rattle.message_write.proofs.records.all_within.Tie as tie
+use Rattle.message_rules.proofs.all_within.Statement.{statement}
+use Rattle.message_rules.proofs.all_within.Tie as tie
 
 abbrev Inv-loop : tie.InvT-loop
 Inv-loop bytes starts lens all i₀ i =

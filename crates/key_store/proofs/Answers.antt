@@ -22,6 +22,10 @@ pub answer-as : (index : KeyIndex) (r : StoreAnswer) (a s : Storing) → (meanin
     → (meaningOf r ≡ givenBy index s) × (r .evicted ≡ evictedOr0 s)
 answer-as index r a s h e = (h .0 ∙ ap (givenBy index) e, h .1 ∙ ap evictedOr0 e)
 
+-- a refusal with the number that is due
+pub said : (n m : ℕ) {s : Storing} → refused (only m) ≡ s → n ≡ m → refused (only n) ≡ s
+said n m e k = ap (λ (i : ℕ). refused (only i)) k ∙ e
+
 -- what comes after the content was examined
 abbrev after : Storing → Outcome (List ℕ) → Storing
 after s (Outcome.given content) = s

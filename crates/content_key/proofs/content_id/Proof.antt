@@ -1,7 +1,7 @@
 -- `content_key::content_id` meets its contract: the answer of `key` is taken through `mapOutcome`, as the definition does.
 -- Assumes nothing.
 use borrow.Author.Needs.{needs}
-use mathlib.Core.Path.{_∙_, ap}
+use mathlib.Core.Path.{_≡_, _∙_, ap}
 use Rattle.refusal.specs.Outcome.{given, mapOutcome, orZeros}
 use Rattle.refusal.proofs.Outcomes.{was-given, was-refused}
 use Rattle.content_key.specs.Key.{keyId}
@@ -23,7 +23,8 @@ enum-known-checked c = search needs
 returns : tie.Need-returns
 returns c =
     let k = was-given _ _ (c .before .before .before .before .key .ensures .0) (c .before .before .enum-told .given .1) in
-    let i = ap given (c .id .ensures) ∙ ap (mapOutcome keyId) k in
+    let own : c .id .result ≡ keyId (c .before .before .before .before .key .result .key) = search needs in
+    let i = ap given own ∙ ap (mapOutcome keyId) k in
     (i, ap (orZeros 32) i)
 
 returns-2 : tie.Need-returns-2

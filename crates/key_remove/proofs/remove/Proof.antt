@@ -17,8 +17,10 @@ use Rattle.key_index.specs.declared.KeyIndex.{KeyIndex}
 use Rattle.key_index.specs.declared.Place.the-variants.{At}
 use Rattle.key_index.proofs.Chunks.{chunks-length}
 use Rattle.key_index.proofs.Rules.{good-facts}
-use Rattle.key_index.proofs.Places.{place-inside, at-held, nothing-held}
-use Rattle.key_remove.specs.Answer.{now, givenBy, removeFor}
+use Rattle.key_index.proofs.Places.{place-inside, place-among, at-held, nothing-held}
+use Rattle.refusal.specs.Says.{only}
+use Rattle.key_remove.specs.Remove.{Removing, refused}
+use Rattle.key_remove.specs.Answer.{now, back, givenBy, removeFor}
 use Rattle.key_remove.proofs.Without.{without-place}
 use Rattle.key_remove.proofs.Cases.{remove-bad, remove-no-key, remove-absent, remove-held}
 use borrow.Author.Needs.{needs}
@@ -42,6 +44,20 @@ module _ (index : KeyIndex) (key : List ℕ) (place : ℕ) (g : good 240 (view i
       let old = chunks (index .count) (index .keys) in
       ap (λ (l : List (List ℕ)). now (withKeys (view index) l)) (moved ∙ sym (without-place key old place e))
       ∙ ap (givenBy index) (sym (remove-held 240 (view index) bytes g k (at-held key old place e)))
+
+-- where `key` has answered, from where `find` has
+abbrev asked : tie.After-find → tie.After-key
+asked c = c .before .before .before .before .before .before .before
+
+-- a refusal with the number that is due
+said : (index : KeyIndex) (n m : ℕ) {o : Removing} → o ≡ refused (only m) → n ≡ m → back (only n) index ≡ givenBy index o
+said index n m e s = ap (λ (k : ℕ). back (only k) index) s ∙ ap (givenBy index) (sym e)
+
+-- the key is looked for among the keys in use
+among : (c : tie.After-find)
+    → placeOf (asked c .key .result .key) (chunks (asked c .before .before .before .before .args .t1 .count) (asked c .before .before .before .before .args .t1 .keys))
+    ≡ c .find .result
+among c = place-among _ _ _ (asked c .before .before .before .before .args .t1 .count) (c .find .ensures) (search needs)
 
 is-good-requires : tie.Need-is-good-requires
 is-good-requires c κs = search needs
@@ -82,14 +98,15 @@ returns-3 c =
     let at = told .before .before in
     let index = at .before .before .before .before .args .t1 in
     let k = was-given _ _ (at .key .ensures .0) (told .enum-told .given .1) in
-    ap (givenBy index) (sym (remove-absent 240 (view index) _ (sym (at .before .before .is-good .ensures) ∙ not-false _ (at .before .if1 .left)) k (nothing-held _ _ (sym (c .before .before .find .ensures) ∙ c .enum-told2 .given .1))))
+    said index _ 12 (remove-absent 240 (view index) _ (sym (at .before .before .is-good .ensures) ∙ not-false _ (at .before .if1 .left)) k (nothing-held _ _ (among (c .before .before) ∙ c .enum-told2 .given .1)))
+    (search needs)
 
 without-at-requires : tie.Need-without-at-requires
 without-at-requires c κs =
     let found = c .before .before in
     let at = found .before .before .before .before .before .before .before .before .before in
     let index = at .before .before .before .before .args .t1 in
-    let i = inside index _ _ (sym (at .before .before .is-good .ensures) ∙ not-false _ (at .before .if1 .left)) (sym (found .before .before .find .ensures) ∙ found .found .given .1) in
+    let i = inside index _ _ (sym (at .before .before .is-good .ensures) ∙ not-false _ (at .before .if1 .left)) (among (found .before .before) ∙ found .found .given .1) in
     (omega (arith, i .0), i .1)
 
 sub-next : tie.Need-sub-next
@@ -97,7 +114,7 @@ sub-next c =
     let found = c .before .before .before in
     let at = found .before .before .before .before .before .before .before .before .before in
     let index = at .before .before .before .before .args .t1 in
-    let i = inside index _ _ (sym (at .before .before .is-good .ensures) ∙ not-false _ (at .before .if1 .left)) (sym (found .before .before .find .ensures) ∙ found .found .given .1) in
+    let i = inside index _ _ (sym (at .before .before .is-good .ensures) ∙ not-false _ (at .before .if1 .left)) (among (found .before .before) ∙ found .found .given .1) in
     omega (arith, i .0)
 
 returns-4 : tie.Need-returns-4
@@ -107,7 +124,7 @@ returns-4 c =
     let at = told .before .before in
     let index = at .before .before .before .before .args .t1 in
     let k = was-given _ _ (at .key .ensures .0) (told .enum-told .given .1) in
-    taken index _ _ (sym (at .before .before .is-good .ensures) ∙ not-false _ (at .before .if1 .left)) (sym (found .before .before .find .ensures) ∙ found .found .given .1) _ _ k (c .without-at .ensures)
+    taken index _ _ (sym (at .before .before .is-good .ensures) ∙ not-false _ (at .before .if1 .left)) (among (found .before .before) ∙ found .found .given .1) _ _ k (c .without-at .ensures)
 
 pub remove-spec : {M : Type 1} → statement M
 remove-spec =

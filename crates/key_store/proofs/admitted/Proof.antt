@@ -15,7 +15,7 @@ use Rattle.key_index.specs.Calls.{isHeld}
 use Rattle.key_index.specs.declared.KeyIndex.{KeyIndex}
 use Rattle.key_index.proofs.Places.{at-held, nothing-held}
 use Rattle.key_store.specs.Store.{refused, putOf, admitOf}
-use Rattle.key_store.proofs.Answers.{answer-as, admit-held, admit-far, admit-put}
+use Rattle.key_store.proofs.Answers.{answer-as, said, admit-held, admit-far, admit-put}
 use borrow.Author.Needs.{needs}
 use Rattle.key_store.proofs.admitted.Statement.{statement}
 use Rattle.key_store.proofs.admitted.Tie as tie
@@ -64,8 +64,8 @@ refused-requires c κs = search needs
 returns : tie.Need-returns
 returns c =
     let a = c .before .before .before .before .before .before .before .args in
-    answer-as (a .t1) (c .refused .result) (refused (only 11)) (admitOf 240 (view (a .t1)) (a .key)) (c .refused .ensures)
-    (admit-held 240 (view (a .t1)) (a .key) (at-held _ _ _ (sym (c .before .before .before .find .ensures) ∙ c .before .enum-told .given .1)))
+    answer-as (a .t1) (c .refused .result) (refused (only _)) (admitOf 240 (view (a .t1)) (a .key)) (c .refused .ensures)
+    (said _ 11 (admit-held 240 (view (a .t1)) (a .key) (at-held _ _ _ (sym (c .before .before .before .find .ensures) ∙ c .before .enum-told .given .1))) (search needs))
 
 enum-told-2 : tie.Need-enum-told-2
 enum-told-2 c = search needs

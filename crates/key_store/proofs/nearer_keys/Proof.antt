@@ -1,7 +1,7 @@
 -- `key_store::nearer_keys` meets its contract. The invariant: the first i keys are nearer, and the rest is still to be counted; its steps are
 -- laws of `proofs/Nearer.antt`. The measure is what is left of the count. Assumes nothing.
-use Prim.Native.Nat.{_-_, _≤_}
-use mathlib.Core.Path.{sym, _∙_}
+use Prim.Native.Nat.{ℕ, _-_, _≤_}
+use mathlib.Core.Path.{_≡_, sym, _∙_}
 use borrow.Author.Needs.{needs}
 use borrow.Author.Tests.{leb-true, leb-false}
 use Rattle.octets.specs.Bytes.{be}
@@ -14,6 +14,10 @@ Inv-loop keys count node far i₀ i = (i ≤ count) × Counted node (be far) key
 
 abbrev μ-loop : tie.MeasureT-loop
 μ-loop keys count node far i₀ i = count - i
+
+-- an answer that is the place
+place-is : (r i n : ℕ) → i ≡ n → r ≡ i → r ≡ n
+place-is r i n e s = s ∙ e
 
 loop-holds : tie.Need-loop-holds Inv-loop μ-loop
 loop-holds c = (search needs, count-start _ _ _ _)
@@ -30,9 +34,11 @@ at-most-requires c κs = search needs
 returns : tie.Need-returns Inv-loop μ-loop
 returns c =
     let at = c .before .before .before .before .before in
+    let here =
     count-here _ _ _ _ (at .loop .i) (at .loop .inv .1) (c .before .before .before .before .loop-test .taken) (at .before .before .pre) _
     (c .before .before .before .key-at .ensures) _ (c .before .before .away .ensures)
-    (leb-true _ _ (sym (c .before .at-most .ensures) ∙ c .if1 .taken))
+    (leb-true _ _ (sym (c .before .at-most .ensures) ∙ c .if1 .taken)) in
+    place-is _ (at .loop .i) _ here (search needs)
 
 add-i : tie.Need-add-i Inv-loop μ-loop
 add-i c = search needs

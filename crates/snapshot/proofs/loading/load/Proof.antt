@@ -23,7 +23,7 @@ bad-line-requires c κs = search needs
 returns : tie.Need-returns Inv-loop μ-loop
 returns c =
     let a = c .before .before .before .before .before .args in
-    refused-at (a .index) _ (a .text .now) _ 1 _ (c .bad-line .ensures) (cc) (omega arith)
+    refused-at (a .index) _ (a .text .now) _ 1 _ (c .bad-line .ensures) (search needs) (omega arith)
     (first-bad (a .text .now) _ (c .before .before .before .header-in .ensures) (not-true _ (c .before .if1 .taken)))
 
 fresh-requires : tie.Need-fresh-requires Inv-loop μ-loop
@@ -53,7 +53,7 @@ returns-2 : tie.Need-returns-2 Inv-loop μ-loop
 returns-2 c =
     let a = c .before .before .before .before .before .before .before .before .before .before .before .before .before .args in
     let at = c .before .before .before .before .before in
-    refused-at (a .index) _ (a .text .now) _ _ _ (c .bad-line2 .ensures) (cc) (omega arith)
+    refused-at (a .index) _ (a .text .now) _ _ _ (c .bad-line2 .ensures) (search needs) (omega arith)
     (line-bad _ _ _ _ _ _ _ (at .loop .inv) (c .before .before .before .before .loop-test .taken) _ _ (c .before .before .before .key-line .ensures)
     (λ e. omega (arith, eqb-true)) (λ e. omega (arith, eqb-false)) (not-true _ (c .before .if2 .taken)))
 
@@ -98,7 +98,7 @@ returns-3 : tie.Need-returns-3 Inv-loop μ-loop
 returns-3 c =
     let a = c .before .before .before .before .before .before .before .before .before .before .before .args in
     let at = c .before .before .before in
-    refused-at (a .index) _ (a .text .now) _ _ _ (c .bad-line3 .ensures) (cc) (omega arith)
+    refused-at (a .index) _ (a .text .now) _ _ _ (c .bad-line3 .ensures) (search needs) (omega arith)
     (too-long _ _ _ _ _ _ _ (at .loop .inv) (c .before .before .loop-test .left) (c .before .if3 .taken))
 
 returns-4 : tie.Need-returns-4 Inv-loop μ-loop

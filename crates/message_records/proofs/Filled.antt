@@ -6,7 +6,7 @@ use native.Mathlib.Omega.{arith}
 use mathlib.Core.Path.{_≡_, refl, sym, ap, ap₂, _∙_}
 use mathlib.Core.Bool.{true}
 use mathlib.Core.List.{List, [], _∷_, _++_, map}
-use lib.ListN.{length, getD, take, drop, set, replicate, length-append, length-drop, length-map, length-replicate, length-set, take-append-drop, List·getD-append}
+use lib.ListN.{length, getD, take, drop, set, replicate, length-drop, length-map, length-set, take-append-drop}
 use lib.Seq.{drop-drop, drop-set-lt, getD-set-same, getD-set-other, getD-take, ext-getD, length-take-le, take-all, take-take}
 use borrow.Author.Count.{below-none, below-more}
 use Rattle.message.specs.Records.{offsetsOf, ordered, between}

@@ -22,7 +22,7 @@ use Rattle.message.specs.Report.{in32}
 use Rattle.message.proofs.Tests.{both, passed}
 use Rattle.message_rules.specs.Good.{insideAt, goodAt, allWithin, Places}
 use Rattle.message_rules.proofs.Places.{in32-length, in32-at, records-length}
-use Rattle.message_rules.proofs.Good.{outside-at, inside-all, all-inside, good-inside}
+use Rattle.message_rules.proofs.Good.{inside-all, all-inside, good-inside}
 use Rattle.message_write.specs.declared.records.Lent.{Lent}
 use Rattle.message_write.specs.Lent.{within, lent, lentWhy, unlentOf, LentTo}
 use Rattle.refusal.proofs.Outcomes.{accepted-not}

@@ -3,7 +3,7 @@
 use Prim.Native.Nat.{ℕ, zero, suc, _+_, _*_, _<_, _≤_}
 use native.Mathlib.Decide.{decLt}
 use native.Mathlib.Omega.{arith}
-use mathlib.Core.Path.{_≡_, refl, sym, _∙_, ap, ap₂}
+use mathlib.Core.Path.{_≡_, refl, sym, _∙_, ap}
 use mathlib.Core.List.{List, [], _∷_, reverse, reverse-cons}
 use lib.ListN.{length, getD, take, drop, drop-of-length-le, length-reverse, List·getD-append, List·getD-eq-default}
 use lib.Seq.{drop-cons, getD-at}

@@ -61,7 +61,7 @@ pub fn radius(index: KeyIndex) -> RadiusAnswer
 {
     if !is_good(index) {
         return RadiusAnswer {
-            checked: Checked::Refused(Refusal::BadIndex),
+            checked: Checked::Refused(Refusal::BadState),
             radius: [0u8; 32],
         };
     }
@@ -84,7 +84,7 @@ pub fn holds(index: KeyIndex, bytes: &[u8]) -> Holding
     ensures { λ r. ⌜ holdingOf r ≡ holdsFor 240 (view index) (now (bytes .entry)) ⌝ }
 {
     if !is_good(index) {
-        return Holding::Refused(Refusal::BadIndex);
+        return Holding::Refused(Refusal::BadState);
     }
     let read = content_key::key(bytes);
     let checked = read.checked;

@@ -24,7 +24,7 @@ pub fn remove(index: KeyIndex, bytes: &[u8]) -> RemoveAnswer
 {
     if !key_index::is_good(index) {
         return RemoveAnswer {
-            checked: Checked::Refused(Refusal::BadIndex),
+            checked: Checked::Refused(Refusal::BadState),
             index,
         };
     }

@@ -41,7 +41,7 @@ pub fn store(index: KeyIndex, bytes: &[u8], content: &[u8]) -> StoreAnswer
     ensures { λ r. ⌜ r .evicted ≡ evictedOr0 (storeOf 240 (view index) (now (bytes .entry)) (now (content .entry))) ⌝ }
 {
     if !key_index::is_good(index) {
-        return refused(index, Refusal::BadIndex);
+        return refused(index, Refusal::BadState);
     }
     let read = content_key::key(bytes);
     let checked = read.checked;

@@ -4,22 +4,22 @@ use mathlib.Core.List.{List, [], _∷_}
 use lib.ListN.{getD}
 use Rattle.refusal.specs.Says.{Said, only, atLine, saysOf}
 use Rattle.refusal.specs.declared.Refusal.{Refusal}
-use Rattle.refusal.specs.declared.Refusal.the-variants.{BadIndex, EmptyMessage, LongMessage, MessageType, Layout, TooManyItems, ItemRule, KeyLength, KeySelector, Content, BeyondRadius, AlreadyHeld, NotHeld, ShortBuffer, BadSnapshot, NotHex}
+use Rattle.refusal.specs.declared.Refusal.the-variants.{BadState, EmptyMessage, LongMessage, MessageType, Layout, TooManyItems, ItemRule, KeyLength, KeySelector, Content, BeyondRadius, AlreadyHeld, NotHeld, ShortBuffer, BadSnapshot, NotHex, OwnId, TableFull, ReplacementsFull, NoEntry}
 
--- the refusals without a line, by their numbers
+-- the refusals without a line, by their numbers, `NotHex` also where a number is not used; `NoEntry` comes behind them
 abbrev table : List Refusal
 table =
-    BadIndex ∷ EmptyMessage ∷ LongMessage ∷ MessageType ∷ Layout ∷ TooManyItems ∷ ItemRule ∷ KeyLength ∷ KeySelector ∷ Content
-    ∷ BeyondRadius ∷ AlreadyHeld ∷ NotHeld ∷ ShortBuffer ∷ []
+    BadState ∷ EmptyMessage ∷ LongMessage ∷ MessageType ∷ Layout ∷ TooManyItems ∷ ItemRule ∷ KeyLength ∷ KeySelector ∷ Content
+    ∷ BeyondRadius ∷ AlreadyHeld ∷ NotHeld ∷ ShortBuffer ∷ NotHex ∷ NotHex ∷ NotHex ∷ NotHex ∷ NotHex ∷ NotHex ∷ OwnId ∷ TableFull ∷ ReplacementsFull ∷ []
 
 -- the refusal that says something
 abbrev pub refusalOf : Said → Refusal
-refusalOf (only n) = getD table n NotHex
+refusalOf (only n) = getD table n NoEntry
 refusalOf (atLine n line) = BadSnapshot line
 
 -- it is the one that said it
 pub said-by : (why : Refusal) → refusalOf (saysOf why) ≡ why
-said-by BadIndex = refl
+said-by BadState = refl
 said-by EmptyMessage = refl
 said-by LongMessage = refl
 said-by MessageType = refl
@@ -35,6 +35,10 @@ said-by NotHeld = refl
 said-by ShortBuffer = refl
 said-by (BadSnapshot line) = refl
 said-by NotHex = refl
+said-by OwnId = refl
+said-by TableFull = refl
+said-by ReplacementsFull = refl
+said-by NoEntry = refl
 
 pub says-inj : (a b : Refusal) → saysOf a ≡ saysOf b → a ≡ b
 says-inj a b e = sym (said-by a) ∙ ap refusalOf e ∙ said-by b

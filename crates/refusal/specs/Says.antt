@@ -1,14 +1,15 @@
--- What a refusal says: its number in document 01's table "Numbers given back", for 14 its line too, and nothing else.
+-- What a refusal says: its number in document 01's table "Numbers given back", which document 02's requests join, for 14 its line too, and
+-- nothing else.
 use Prim.Native.Nat.{ℕ}
 use Rattle.refusal.specs.declared.Refusal.{Refusal}
-use Rattle.refusal.specs.declared.Refusal.the-variants.{BadIndex, EmptyMessage, LongMessage, MessageType, Layout, TooManyItems, ItemRule, KeyLength, KeySelector, Content, BeyondRadius, AlreadyHeld, NotHeld, ShortBuffer, BadSnapshot, NotHex}
+use Rattle.refusal.specs.declared.Refusal.the-variants.{BadState, EmptyMessage, LongMessage, MessageType, Layout, TooManyItems, ItemRule, KeyLength, KeySelector, Content, BeyondRadius, AlreadyHeld, NotHeld, ShortBuffer, BadSnapshot, NotHex, OwnId, TableFull, ReplacementsFull, NoEntry}
 
 pub data Said : Type 0 where
   only : (number : ℕ) → Said
   atLine : (number line : ℕ) → Said
 
 abbrev pub saysOf : Refusal → Said
-saysOf BadIndex = only 0
+saysOf BadState = only 0
 saysOf EmptyMessage = only 1
 saysOf LongMessage = only 2
 saysOf MessageType = only 3
@@ -24,6 +25,10 @@ saysOf NotHeld = only 12
 saysOf ShortBuffer = only 13
 saysOf (BadSnapshot line) = atLine 14 line
 saysOf NotHex = only 15
+saysOf OwnId = only 20
+saysOf TableFull = only 21
+saysOf ReplacementsFull = only 22
+saysOf NoEntry = only 29
 
 -- the number, without a line
 abbrev pub numberIn : Said → ℕ

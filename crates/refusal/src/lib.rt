@@ -2,10 +2,10 @@
 ghost use mathlib.Core.Path.{_≡_};
 ghost use Rattle.refusal.specs.Says.{numberOf};
 
-// Why a call is refused, in the order of the numbers from 0 to 15.
+// Why a call is refused, in the order of the numbers: 0 to 15, 20 to 22, 29.
 pub enum Refusal {
-    // The index handed in breaks its rules.
-    BadIndex,
+    // The index or the routing table handed in breaks its rules.
+    BadState,
     // The message has no bytes.
     EmptyMessage,
     // The message has more than 1,280 bytes.
@@ -36,6 +36,14 @@ pub enum Refusal {
     BadSnapshot { line: usize },
     // An odd number of digits, or a character that is no lower-case hexadecimal digit.
     NotHex,
+    // The id is the routing table's own.
+    OwnId,
+    // A newcomer whose log distance has room, but all entries are used.
+    TableFull,
+    // A newcomer to a full log distance, but all replacements are of other log distances.
+    ReplacementsFull,
+    // The id that failed has no entry.
+    NoEntry,
 }
 
 // Whether an input was accepted, beside whatever an accepted one gives.
@@ -55,7 +63,7 @@ pub fn number(why: Refusal) -> u8
     ensures { λ r. ⌜ r ≡ numberOf why ⌝ }
 {
     match why {
-        Refusal::BadIndex => 0,
+        Refusal::BadState => 0,
         Refusal::EmptyMessage => 1,
         Refusal::LongMessage => 2,
         Refusal::MessageType => 3,
@@ -71,5 +79,9 @@ pub fn number(why: Refusal) -> u8
         Refusal::ShortBuffer => 13,
         Refusal::BadSnapshot { line: _ } => 14,
         Refusal::NotHex => 15,
+        Refusal::OwnId => 20,
+        Refusal::TableFull => 21,
+        Refusal::ReplacementsFull => 22,
+        Refusal::NoEntry => 29,
     }
 }

@@ -11,7 +11,7 @@ use lib.Seq.{take-at, drop-append-add, drop-drop, drop-cons, set-at, append-snoc
 use borrow.Author.Tests.{le-leb, lt-leb}
 use Rattle.refusal.specs.Outcome.{Outcome, given, refused}
 use Rattle.refusal.specs.Buffer.{Writes}
-use Rattle.refusal.specs.declared.Refusal.the-variants.{BadIndex, ShortBuffer}
+use Rattle.refusal.specs.declared.Refusal.the-variants.{BadState, ShortBuffer}
 use Rattle.refusal.specs.declared.Wrote.the-variants.{Bytes, Refused}
 use Rattle.hex.specs.Digits.{textOf}
 use Rattle.octets.specs.Buffer.{placed}
@@ -239,10 +239,10 @@ module _ (node cap keys : List ℕ) (count : ℕ) (d first : List ℕ) (n : leng
 -- what `save` answers
 module _ (limit : ℕ) (v : View) (d : List ℕ) where
   -- a bad index
-  pub save-bad : good limit v ≡ false → Writes (saveOf limit v (length d)) (Refused BadIndex) d d
+  pub save-bad : good limit v ≡ false → Writes (saveOf limit v (length d)) (Refused BadState) d d
   save-bad g =
       let e : saveOf limit v (length d) ≡ refused 0 = rw g in
-      subst (λ (o : Outcome (List ℕ)). Writes o (Refused BadIndex) d d) (sym e) (record { answered = refl; buffer = refl })
+      subst (λ (o : Outcome (List ℕ)). Writes o (Refused BadState) d d) (sym e) (record { answered = refl; buffer = refl })
 
   -- a short buffer
   pub save-short : good limit v ≡ true → length d < length (snapshotOf v) → Writes (saveOf limit v (length d)) (Refused ShortBuffer) d d

@@ -39,7 +39,7 @@ pub fn reload(index: KeyIndex, text: &[u8]) -> ReloadAnswer
 {
     if !key_index::is_good(index) {
         return ReloadAnswer {
-            checked: Checked::Refused(Refusal::BadIndex),
+            checked: Checked::Refused(Refusal::BadState),
             index,
         };
     }

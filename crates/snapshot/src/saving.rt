@@ -19,7 +19,7 @@ pub fn save(index: KeyIndex, out: &mut [u8]) -> Wrote
     ensures { λ r. ⌜ Writes (saveOf 240 (view index) (length (now (out .entry)))) r (now (out .entry)) (now (out .exit)) ⌝ }
 {
     if !key_index::is_good(index) {
-        return Wrote::Refused(Refusal::BadIndex);
+        return Wrote::Refused(Refusal::BadState);
     }
     let count = index.count;
     let size = FIRST + LINE * count;

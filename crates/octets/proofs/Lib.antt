@@ -2,4 +2,5 @@ pub mod Buffers
 pub mod Equal
 pub mod Numbers
 pub mod Order
+pub mod Pairs
 pub mod Parts

@@ -3,6 +3,7 @@ import messages
 import rlp
 from index import Index, load
 from history import Refused, digits, distance, interested, key_id, log_distance, unhex
+from routing import FLAG, Contact, Table
 
 LONGEST = 65536
 MOST_WORDS = 40
@@ -30,6 +31,14 @@ def value(word):
     return int.from_bytes(found, 'big')
 
 
+def four(word):
+    """A word of four bytes."""
+    found = data(word)
+    if len(found) != 4:
+        raise NoCall
+    return found
+
+
 def number(word, most):
     """A decimal number with no zero in front."""
     if not word.isdigit() or len(word) > 5 or word != str(int(word)).encode() or int(word) > most:
@@ -50,14 +59,17 @@ def message_values(name, words):
             if field == 'uint8':
                 values[at] = number(word, 255)
             else:
-                values[at] = value(word) if field == 'uint256' else data(word)
-            if field == 'bytes4' and len(values[at]) != 4:
-                raise NoCall
+                values[at] = {'uint256': value, 'bytes4': four}.get(field, data)(word)
     if 'list' in fields:
         values[fields.index('list')] = [data(word) for word in words]
     elif words:
         raise NoCall
     return [values[at] for at in range(len(fields))]
+
+
+def listed(word, contacts):
+    """A word, how many contacts, and their ids."""
+    return ' '.join([word, str(len(contacts))] + [digits(c.node) for c in contacts])
 
 
 # how each message is written in words; the fields that are lists of records come last
@@ -76,7 +88,7 @@ MESSAGE_WORDS = [
 
 class Console:
     def __init__(self):
-        self.index, self.room = Index(0, 2**256 - 1), LONGEST
+        self.index, self.room, self.neighbours = Index(0, 2**256 - 1), LONGEST, Table(0)
 
     def id(self, key):
         return 'id ' + digits(key_id(data(key)))
@@ -138,6 +150,33 @@ class Console:
         self.index = load(b'' if text == b'-' else text.replace(b'|', b'\n'))
         return 'loaded'
 
+    def table(self, own):
+        self.neighbours = Table(value(own))
+        return 'ok'
+
+    def seen(self, node, radius, address, port):
+        return self.neighbours.seen(Contact(value(node), value(radius), four(address), number(port, 65535)))
+
+    def failed(self, node):
+        count, by = self.neighbours.failed(value(node))
+        if by is not None:
+            return 'replaced ' + digits(by.node)
+        return 'flagged' if count == FLAG else 'counted %d' % count
+
+    def rows(self):
+        return listed('rows', self.neighbours.entries)
+
+    def waiting(self):
+        return listed('waiting', self.neighbours.replacements)
+
+    def entry(self, node):
+        found = self.neighbours.find(value(node))
+        if found is None:
+            return 'absent'
+        contact, failures = found
+        fields = '%s %s %d' % (digits(contact.radius), contact.address.hex(), contact.port)
+        return 'waiting ' + fields if failures is None else 'row %s %d' % (fields, failures)
+
     def help(self):
         named = []
         for name, (call, words) in self.CALLS.items():
@@ -161,6 +200,12 @@ class Console:
         b'keys': (keys, ''),
         b'save': (save, ''),
         b'load': (load, 'TEXT'),
+        b'table': (table, 'OWN'),
+        b'seen': (seen, 'ID RADIUS IP PORT'),
+        b'failed': (failed, 'ID'),
+        b'rows': (rows, ''),
+        b'waiting': (waiting, ''),
+        b'entry': (entry, 'ID'),
         b'help': (help, ''),
     }
 

@@ -11,6 +11,7 @@ import cases
 import console
 import index_edges
 import lister
+import routing_edges
 import write_edges
 
 CRATES = Path(__file__).resolve().parents[2] / 'crates'
@@ -26,6 +27,7 @@ def stored():
         yield CRATES / crate / 'stdout', answers(made)
     yield CRATES / 'index_edges' / 'stdout', index_edges.output()
     yield CRATES / 'write_edges' / 'stdout', write_edges.output()
+    yield CRATES / 'routing_edges' / 'stdout', routing_edges.output()
 
 
 def main():

@@ -5,6 +5,7 @@ use console_text::answer;
 use console_text::words;
 use console_text::words::Words;
 use key_index::KeyIndex;
+use routing_table::RoutingTable;
 
 enum Call {
     Id,
@@ -21,13 +22,21 @@ enum Call {
     Keys,
     Save,
     Load,
+    Table,
+    Seen,
+    Failed,
+    Rows,
+    Waiting,
+    Entry,
     Help,
     None,
 }
 
-// What the console holds from line to line: the index, and the length of the buffer that is lent to calls that write.
+// What the console holds from line to line: the index, the routing table, and the length of the buffer that is lent to calls that
+// write.
 pub struct State {
     pub index: KeyIndex,
+    pub table: RoutingTable,
     pub room: usize,
 }
 
@@ -37,10 +46,11 @@ pub struct Answered {
     pub len: usize,
 }
 
-// At first, a fresh index of node id zero and a cap of all ones, and the whole buffer.
+// At first, a fresh index of node id zero and a cap of all ones, a fresh table of own id zero, and the whole buffer.
 pub fn start() -> State {
     State {
         index: key_index::fresh([0u8; 32], [255u8; 32]),
+        table: routing_table::fresh([0u8; 32]),
         room: 65536,
     }
 }
@@ -73,17 +83,65 @@ pub fn answer(
             let len = console_messages::write(line, words, state.room, data, spare, out);
             Answered { state, len }
         }
+        _ => routed(call, state, line, words, data, out),
+    }
+}
+
+// The state with the index of a reply.
+fn held(state: State, reply: console_index::Reply) -> Answered {
+    let index = reply.index;
+    let table = state.table;
+    let next = State {
+        index,
+        table,
+        room: state.room,
+    };
+    Answered {
+        state: next,
+        len: reply.len,
+    }
+}
+
+// The calls that change the routing table, and those that change nothing.
+fn routed(
+    call: Call,
+    state: State,
+    line: &[u8],
+    words: Words,
+    data: &mut [u8],
+    out: &mut [u8],
+) -> Answered {
+    let table = state.table;
+    match call {
+        Call::Table => met(state, console_routing::table(table, line, words, out)),
+        Call::Seen => met(state, console_routing::seen(table, line, words, out)),
+        Call::Failed => met(state, console_routing::failed(table, line, words, out)),
+        Call::Rows => {
+            let len = console_routing::rows(table, words, out);
+            Answered { state, len }
+        }
+        Call::Waiting => {
+            let len = console_routing::waiting(table, words, out);
+            Answered { state, len }
+        }
+        Call::Entry => {
+            let len = console_routing::entry(table, line, words, out);
+            Answered { state, len }
+        }
         _ => {
-            let len = asked(call, index, line, words, data, out);
+            let len = asked(call, state.index, line, words, data, out);
             Answered { state, len }
         }
     }
 }
 
-fn held(state: State, reply: console_index::Reply) -> Answered {
-    let index = reply.index;
+// The state with the routing table of a reply.
+fn met(state: State, reply: console_routing::Reply) -> Answered {
+    let index = state.index;
+    let table = reply.table;
     let next = State {
         index,
+        table,
         room: state.room,
     };
     Answered {
@@ -177,6 +235,28 @@ fn index_call(name: &[u8]) -> Call {
     }
     if check::same(name, b"load") {
         return Call::Load;
+    }
+    table_call(name)
+}
+
+fn table_call(name: &[u8]) -> Call {
+    if check::same(name, b"table") {
+        return Call::Table;
+    }
+    if check::same(name, b"seen") {
+        return Call::Seen;
+    }
+    if check::same(name, b"failed") {
+        return Call::Failed;
+    }
+    if check::same(name, b"rows") {
+        return Call::Rows;
+    }
+    if check::same(name, b"waiting") {
+        return Call::Waiting;
+    }
+    if check::same(name, b"entry") {
+        return Call::Entry;
     }
     Call::None
 }

@@ -30,7 +30,12 @@ pub fn help(words: Words, out: &mut [u8]) -> usize {
     let index = answer::text(
         out,
         rest,
-        b"fresh NODE CAP; store KEY CONTENT; remove KEY; radius; keys; save; load TEXT; help",
+        b"fresh NODE CAP; store KEY CONTENT; remove KEY; radius; keys; save; load TEXT; ",
     );
-    answer::end(out, index)
+    let table = answer::text(
+        out,
+        index,
+        b"table OWN; seen ID RADIUS IP PORT; failed ID; rows; waiting; entry ID; help",
+    );
+    answer::end(out, table)
 }

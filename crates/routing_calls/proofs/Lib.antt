@@ -1,0 +1,6 @@
+pub mod Closed
+pub mod Mapped
+pub mod Views
+pub mod Told
+pub mod Sightings
+pub mod Misses

@@ -1,0 +1,16 @@
+pub mod Done
+pub mod Steps
+pub mod Distinct
+pub mod Ids
+pub mod Kept
+pub mod Around
+pub mod Apart
+pub mod Recall
+pub mod Ordered
+pub mod Known
+pub mod Waiting
+pub mod Memory
+pub mod Leaving
+pub mod Refusals
+pub mod Remembers
+pub mod Answered

@@ -1,0 +1,10 @@
+pub mod Firsts
+pub mod Placed
+pub mod Passes
+pub mod Cuts
+pub mod Filled
+pub mod Kept
+pub mod Looked
+pub mod Counts
+pub mod Keeps
+pub mod Splits

@@ -13,7 +13,8 @@ none-over-requires c κs = search needs
 
 returns : tie.Need-returns
 returns c =
-    let over : noneOver 16 (c .before .before .before .before .args .entries .now) ≡ false = sym (c .before .none-over .ensures) ∙ not-true _ (c .if1 .taken) in
+    let told = sym (c .before .none-over .ensures) ∙ not-true _ (c .if1 .taken) in
+    let over : noneOver 16 (c .before .before .before .before .args .entries .now) ≡ false = search needs in
     rw over
 
 none-over-requires-2 : tie.Need-none-over-requires-2

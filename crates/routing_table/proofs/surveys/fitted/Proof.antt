@@ -75,7 +75,7 @@ returns-2 : tie.Need-returns-2
 returns-2 c =
     λ v o i l m.
     let a = c .before .before .before .before .before .before .before .before .before .args in
-    fitting v (a .own) (a .id) (a .ids .now) (a .logs .now) (a .middle) o i l m _ (c .before .before .before .log-distance .ensures)
+    fitting v (a .own) (a .id) (a .ids .now) (a .logs .now) (a .middle) o i l m _ (search needs)
     (sym (c .before .before .before .before .before .fit .ensures) ∙ not-false _ (c .before .before .before .before .if1 .left)) _ (c .told .ensures)
 
 pub fitted-spec : {M : Type 1} → statement M

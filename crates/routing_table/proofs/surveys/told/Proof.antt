@@ -35,13 +35,7 @@ last-requires c κs = search needs
 returns : tie.Need-returns
 returns c =
     facts-are _ _ _ _ _ _ _ _ _ _ _ _ _ _
-    (c .before .before .before .before .before .before .same .ensures)
-    (c .before .before .before .before .before .place .ensures)
-    (c .before .before .before .before .place2 .ensures)
-    (c .before .before .before .count .ensures)
-    (c .before .before .count2 .ensures)
-    (c .before .first .ensures)
-    (c .last .ensures)
+    (search needs) (search needs) (search needs) (search needs) (search needs) (search needs) (search needs)
 
 pub told-spec : {M : Type 1} → statement M
 told-spec =

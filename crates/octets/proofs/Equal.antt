@@ -51,30 +51,49 @@ differ-same xs ys n = go (sameBytes xs ys) refl
     go true e = absurd (n (same-true xs ys e))
     go false e = refl
 
--- what the test finds in a list is in it
-pub holds-member : (a : List ℕ) (l : List (List ℕ)) → holds sameBytes a l ≡ true → List·Memᴰ a l
-unfolding holds
-holds-member a [] e = absurd (true≢false (sym e))
-holds-member a (b ∷ l) e = go (sameBytes a b) refl e (holds-member a l)
-  where
-    go : (t : Bool) → sameBytes a b ≡ t → (t || holds sameBytes a l) ≡ true → (holds sameBytes a l ≡ true → List·Memᴰ a l) → List·Memᴰ a (b ∷ l)
-    go true q f below = List·Memᴰ·head (same-true a b q)
-    go false q f below = List·Memᴰ·tail (below f)
+-- what a test for equality finds in a list is what is in it, over any element
+module _ {A : Type 0} (same : A → A → Bool) (equal : (a b : A) → (same a b ≡ true) ↔ (a ≡ b)) where
+  pub found-member : (a : A) (l : List A) → holds same a l ≡ true → List·Memᴰ a l
+  unfolding holds
+  found-member a [] e = absurd (true≢false (sym e))
+  found-member a (b ∷ l) e = go (same a b) refl e (found-member a l)
+    where
+      go : (t : Bool) → same a b ≡ t → (t || holds same a l) ≡ true → (holds same a l ≡ true → List·Memᴰ a l) → List·Memᴰ a (b ∷ l)
+      go true q f below = List·Memᴰ·head (equal a b .0 q)
+      go false q f below = List·Memᴰ·tail (below f)
 
--- the test finds what is in a list
+  pub member-found : (a : A) (l : List A) → List·Memᴰ a l → holds same a l ≡ true
+  unfolding holds
+  member-found a [] m = absurd (List·Memᴰ·not-nil m)
+  member-found a (b ∷ l) m = go (same a b) refl (List·Memᴰ·cases-cons m) (member-found a l)
+    where
+      go : (t : Bool) → same a b ≡ t → (a ≡ b) ⊎ List·Memᴰ a l → (List·Memᴰ a l → holds same a l ≡ true) → (t || holds same a l) ≡ true
+      go true q c below = refl
+      go false q (inl e) below = absurd (true≢false (sym (equal a b .1 e) ∙ q))
+      go false q (inr n) below = below n
+
+-- what the test for equal byte strings finds in a list is in it
+pub holds-member : (a : List ℕ) (l : List (List ℕ)) → holds sameBytes a l ≡ true → List·Memᴰ a l
+holds-member = found-member sameBytes same-iff
+
+-- it finds what is in a list
 pub member-holds : (a : List ℕ) (l : List (List ℕ)) → List·Memᴰ a l → holds sameBytes a l ≡ true
-unfolding holds
-member-holds a [] m = absurd (List·Memᴰ·not-nil m)
-member-holds a (b ∷ l) m = go (sameBytes a b) refl (List·Memᴰ·cases-cons m) (member-holds a l)
-  where
-    go : (t : Bool) → sameBytes a b ≡ t → (a ≡ b) ⊎ List·Memᴰ a l → (List·Memᴰ a l → holds sameBytes a l ≡ true) → (t || holds sameBytes a l) ≡ true
-    go true q c below = refl
-    go false q (inl e) below = absurd (same-false a b q e)
-    go false q (inr n) below = below n
+member-holds = member-found sameBytes same-iff
 
 -- the test is membership
 pub holds-iff : (a : List ℕ) (l : List (List ℕ)) → (holds sameBytes a l ≡ true) ↔ List·Memᴰ a l
 holds-iff a l = (holds-member a l, member-holds a l)
+
+-- the search for something in a list, one turn: what is left at place i, by the element there and by what is left behind it
+module _ {A : Type 0} (same : A → A → Bool) (a : A) (l : List A) (i : ℕ) where
+  pub holds-left : (none : A) → i < length l → holds same a (drop i l) ≡ (same a (getD l i none) || holds same a (drop (i + 1) l))
+  unfolding holds
+  holds-left none h = rw add-one (ap (holds same a) (drop-cons l i none h))
+
+  -- nothing is left at the end
+  pub holds-end : length l ≤ i → holds same a (drop i l) ≡ false
+  unfolding holds
+  holds-end h = ap (holds same a) (drop-of-length-le l h)
 
 -- byte strings of different lengths fail the test
 pub differ-length : (xs ys : List ℕ) → (length xs ≡ length ys → ⊥) → sameBytes xs ys ≡ false

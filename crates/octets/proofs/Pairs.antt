@@ -4,11 +4,12 @@ use Prim.Native.Nat.{ℕ, _+_, _<_, _≤_}
 use native.Mathlib.Numerals.{add-one}
 use native.Mathlib.Omega.{arith}
 use mathlib.Core.Path.{_≡_, refl, sym, ap, _∙_}
-use mathlib.Core.Bool.{Bool, true, false, not, _&&_, _||_}
+use mathlib.Core.Bool.{Bool, true, false, not, _&&_}
 use mathlib.Core.List.{List}
 use lib.ListN.{length, getD, drop, drop-of-length-le}
 use lib.Seq.{drop-cons}
 use Rattle.octets.specs.Equal.{holds, allDifferent}
+use Rattle.octets.proofs.Equal.{holds-left, holds-end}
 
 -- no element before i is equal to another of the n elements
 pub record Clear {A : Type 0} (same : A → A → Bool) (l : List A) (n i : ℕ) : Type 0 where
@@ -28,12 +29,6 @@ module _ {A : Type 0} (same : A → A → Bool) (none : A) (l : List A) (n : ℕ
   unfolding allDifferent
   rest-at i h = rw add-one (ap (allDifferent same) (drop-cons l i none h))
 
-  -- what is left of a row, by the element there
-  left-at : (i j : ℕ) → j < length l
-      → holds same (getD l i none) (drop j l) ≡ (same (getD l i none) (getD l j none) || holds same (getD l i none) (drop (j + 1) l))
-  unfolding holds
-  left-at i j h = rw add-one (ap (holds same (getD l i none)) (drop-cons l j none h))
-
   -- before the first row
   pub clear-start : length l ≡ n → (i : ℕ) → i ≡ 0 → Clear same l n i
   clear-start e i first = record { all = e; rest = ap (λ (k : ℕ). allDifferent same (drop k l)) (sym first) }
@@ -51,10 +46,9 @@ module _ {A : Type 0} (same : A → A → Bool) (none : A) (l : List A) (n : ℕ
   module _ (i j : ℕ) (r : Row same none l n i j) where
     -- after the last element of a row
     pub row-end : n ≤ j → Clear same l n (i + 1)
-    unfolding holds
     row-end h =
         let nowhere : holds same (getD l i none) (drop (i + 1) l) ≡ false =
-        r .left ∙ ap (holds same (getD l i none)) (drop-of-length-le l {i = j} (omega arith)) in
+        r .left ∙ holds-end same (getD l i none) l j (omega arith) in
         record {
           all = r .clear .all;
           rest = r .clear .rest ∙ rest-at i (omega arith) ∙ rw nowhere;
@@ -66,11 +60,11 @@ module _ {A : Type 0} (same : A → A → Bool) (none : A) (l : List A) (n : ℕ
         record {
           clear = r .clear;
           here = r .here;
-          left = r .left ∙ left-at i j (omega arith) ∙ rw e;
+          left = r .left ∙ holds-left same (getD l i none) l j none (omega arith) ∙ rw e;
         }
 
     -- they are equal: the search is over
     pub pair-found : j < n → same (getD l i none) (getD l j none) ≡ true → allDifferent same l ≡ false
     pair-found h e =
-        let one : holds same (getD l i none) (drop (i + 1) l) ≡ true = r .left ∙ left-at i j (omega arith) ∙ rw e in
+        let one : holds same (getD l i none) (drop (i + 1) l) ≡ true = r .left ∙ holds-left same (getD l i none) l j none (omega arith) ∙ rw e in
         r .clear .rest ∙ rest-at i (omega arith) ∙ rw one

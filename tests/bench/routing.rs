@@ -55,7 +55,7 @@ enum Failure {
 
 fn log_distance(a: &Id, b: &Id) -> u16 {
     match a.iter().zip(b).position(|(x, y)| x != y) {
-        Some(i) => 255 - 8 * i as u16 - (a[i] ^ b[i]).leading_zeros() as u16,
+        Some(i) => 256 - 8 * i as u16 - (a[i] ^ b[i]).leading_zeros() as u16,
         None => 0,
     }
 }

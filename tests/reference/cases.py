@@ -47,7 +47,7 @@ def lister_input():
 
 def console_input():
     stream = Stream('console')
-    lines = id_lines(stream) + distance_lines(stream) + interest_lines(stream)
+    lines = id_lines(stream) + distance_lines(stream) + class_lines() + asked_lines() + interest_lines(stream)
     lines += [b'content ' + (c.hex().encode() or b'-') for c in contents(stream)]
     lines += [b'read ' + (m.hex().encode() or b'-') for m in all_messages(stream)]
     return b'\n'.join(lines + write_lines(stream) + index_lines(stream) + snapshot_lines(stream) + routing_lines() + no_calls(stream)) + b'\n'
@@ -70,6 +70,38 @@ def distance_lines(stream):
         lines += [distance_line(a, a ^ stream.below(256)), distance_line(a, a ^ 1)]
         lines.append(distance_line(a, a ^ (b >> stream.below(256))))
     return lines
+
+
+def class_lines():
+    """The largest distance of every log distance (`distance_lines` has the smallest), and first bytes of each value, in any place."""
+    stream = Stream('class')
+    own = int.from_bytes(stream.take(32), 'big')
+    lines = [distance_line(own, own ^ (2**i - 1)) for i in range(257)]
+    for byte in range(1, 256):
+        behind = stream.below(32)
+        lines.append(distance_line(own, own ^ int.from_bytes(bytes([byte]) + stream.take(behind), 'big')))
+    return lines
+
+
+def asked_line(distances, log):
+    return ('asked %s %s' % (distances.hex() or '-', log)).encode()
+
+
+def asked_lines():
+    """Log distances at each end of what a byte holds, asked for by nothing, by one, first, last and by all; and words that are no call."""
+    stream = Stream('asked')
+    every = bytes(range(256))
+    lines = []
+    for log in (0, 1, 2, 127, 128, 254, 255, 256, 257, 511, 512, 65280, 65535):
+        low = bytes([log % 256])
+        others = every.replace(low, b'')
+        lines += [asked_line(d, log) for d in (b'', low, low + low, others, low + others, others + low, every[: log % 256])]
+    for _ in range(60):
+        distances = stream.take(1 + stream.below(40))
+        lines += [asked_line(distances, log) for log in (stream.pick(distances), stream.below(256), 256 + stream.pick(distances))]
+    bad = ['', '-', '-1', '00', '0255', '65536', '99999', '100000', '1a', 'ff', '0x1']
+    lines += [asked_line(b'', word) for word in bad]
+    return lines + [b'asked', b'asked -', b'asked 0', b'asked  0', b'asked 0 0', b'asked 0g 0', b'asked 0A 10', b'asked - 0 0', b'asked - 0 ', b'asked 00 0']
 
 
 def interest_line(node, radius, key):

@@ -2,7 +2,7 @@
 import messages
 import rlp
 from index import Index, load
-from history import Refused, digits, distance, interested, key_id, log_distance, unhex
+from history import Refused, asked, digits, distance, interested, key_id, log_distance, unhex
 from routing import FLAG, Contact, Table
 
 LONGEST = 65536
@@ -67,6 +67,10 @@ def message_values(name, words):
     return [values[at] for at in range(len(fields))]
 
 
+def yes_or_no(found):
+    return 'yes' if found else 'no'
+
+
 def listed(word, contacts):
     """A word, how many contacts, and their ids."""
     return ' '.join([word, str(len(contacts))] + [digits(c.node) for c in contacts])
@@ -99,7 +103,10 @@ class Console:
 
     def interested(self, node, radius, key):
         node, radius, key = value(node), value(radius), data(key)
-        return 'yes' if interested(node, radius, key_id(key)) else 'no'
+        return yes_or_no(interested(node, radius, key_id(key)))
+
+    def asked(self, distances, log):
+        return yes_or_no(asked(data(distances), number(log, 65535)))
 
     def content(self, content):
         if not rlp.acceptable(data(content)):
@@ -189,6 +196,7 @@ class Console:
         b'id': (id, 'KEY'),
         b'distance': (distance, 'A B'),
         b'interested': (interested, 'NODE RADIUS KEY'),
+        b'asked': (asked, 'DISTANCES CLASS'),
         b'content': (content, 'BYTES'),
         b'read': (read, 'MESSAGE'),
         b'write': (write, None),

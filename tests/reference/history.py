@@ -47,9 +47,13 @@ def distance(a, b):
 
 
 def log_distance(a, b):
-    """The base-two logarithm of the distance rounded down, and 0 for equal ids."""
-    d = distance(a, b)
-    return 0 if d == 0 else d.bit_length() - 1
+    """The bit length of the distance: 0 for equal ids, 1 for distance 1, up to 256."""
+    return distance(a, b).bit_length()
+
+
+def asked(distances, log):
+    """Whether a FindNode's distances, a byte each, ask for a log distance."""
+    return any(d == log for d in distances)
 
 
 def interested(node, radius, content):

@@ -32,7 +32,8 @@ class Ids:
     def at(self, log):
         """An id of this log distance that was not yet used."""
         while True:
-            node = self.own ^ (2**log + self.stream.below(2**log) if log < 64 else 2**log | int.from_bytes(self.stream.take(32), 'big') % 2**log)
+            least = 2 ** (log - 1)
+            node = self.own ^ (least + (self.stream.below(least) if log < 65 else int.from_bytes(self.stream.take(32), 'big') % least))
             if node not in self.used:
                 self.used.add(node)
                 return node
@@ -61,7 +62,7 @@ def start(stream, own=None):
 def of_one_log(stream):
     """15, 16 and 17 of one log distance; then 4 and 5 replacements of it, and a sixth. Each is looked up after each call near a limit."""
     lines = []
-    for own, log in ((0, 255), (ONES, 5), (None, 100), (None, 8)):
+    for own, log in ((0, 256), (ONES, 6), (None, 101), (None, 9)):
         ids, made = start(stream, own)
         nodes, other = ids.some(log, ENTRIES_EACH + REPLACEMENTS_EACH + 2), ids.at(log - 1)
         lines += made + ids.all_seen(nodes[: ENTRIES_EACH - 1]) + SHOW
@@ -73,7 +74,7 @@ def of_one_log(stream):
 
 
 def small_logs(stream):
-    """All ids of the log distances 0 to 4, which have 1, 2, 4, 8 and 16 of them; our own id is of log distance 0 too."""
+    """All ids of the log distances 1 to 5, which have 1, 2, 4, 8 and 16 of them; our own id alone is of log distance 0."""
     lines = []
     for own in (0, ONES, 2**255, None):
         ids, made = start(stream, own)
@@ -87,31 +88,31 @@ def all_waiting(stream):
     """15, 16 and 17 replacements in all: the 17th finds its log distance's longest unseen, or is refused with 22."""
     ids, lines = start(stream)
     nodes = {}
-    for log, waiting in ((250, 4), (251, 4), (252, 4), (253, 2), (254, 1)):
+    for log, waiting in ((251, 4), (252, 4), (253, 4), (254, 2), (255, 1)):
         nodes[log], made = ids.full(log, waiting)
         lines += made
-    lines += ['waiting', ids.seen(ids.at(253)), 'waiting']
-    # all 16 places are used: 253 has three, 254 one, 249 none
-    lines += ids.full(249)[1] + [ids.seen(ids.at(249)), 'waiting', ids.seen(ids.at(253)), 'waiting', ids.seen(ids.at(254)), 'waiting', ids.seen(ids.at(250)), 'waiting']
-    late = ids.at(249)
+    lines += ['waiting', ids.seen(ids.at(254)), 'waiting']
+    # all 16 places are used: 254 has three, 255 one, 250 none
+    lines += ids.full(250)[1] + [ids.seen(ids.at(250)), 'waiting', ids.seen(ids.at(254)), 'waiting', ids.seen(ids.at(255)), 'waiting', ids.seen(ids.at(251)), 'waiting']
+    late = ids.at(250)
     lines += [ids.seen(late), entry(late), failed(late), 'waiting']
     # a newcomer whose log distance has room does not wait
-    lines += [ids.seen(ids.at(248)), 'waiting']
+    lines += [ids.seen(ids.at(249)), 'waiting']
     # a failed entry frees a place, which the refused one takes, and now its own log distance's longest unseen makes way
-    lines += [failed(nodes[251][0])] * 3 + ['waiting', ids.seen(late), 'waiting', ids.seen(late), 'waiting', ids.seen(ids.at(249)), 'waiting', entry(late)]
+    lines += [failed(nodes[252][0])] * 3 + ['waiting', ids.seen(late), 'waiting', ids.seen(late), 'waiting', ids.seen(ids.at(250)), 'waiting', entry(late)]
     # 20 comes before 22, and 29 and 20 change nothing
-    return lines + [ids.seen(ids.own), failed(ids.own), failed(ids.at(200))] + SHOW
+    return lines + [ids.seen(ids.own), failed(ids.own), failed(ids.at(201))] + SHOW
 
 
 def all_entries(stream):
     """127, 128 and 129 entries: 21 where the log distance has room, else the newcomer waits, and 22 where all 16 wait elsewhere."""
     ids, lines = start(stream)
-    logs = range(240, 248)
+    logs = range(241, 249)
     for log in logs[:-1]:
         lines += ids.full(log)[1]
     last = ids.some(logs[-1], ENTRIES_EACH)
     lines += ids.all_seen(last[:-1]) + [ids.seen(last[-1]), 'rows']
-    room = [ids.at(log) for log in (0, 7, 248, 255)]
+    room = [ids.at(log) for log in (1, 8, 249, 256)]
     for node in room:
         lines += [ids.seen(node), entry(node), failed(node)]
     lines += ['waiting', ids.seen(ids.own), failed(ids.own), entry(ids.own), ids.seen(last[0]), entry(last[0])]
@@ -121,16 +122,16 @@ def all_entries(stream):
     lines += [failed(last[3])] * 4 + [ids.seen(ids.at(logs[-1])), failed(last[3]), 'waiting', ids.seen(room[1]), ids.seen(last[3]), entry(last[3])]
     for log in logs[1:4]:
         lines += ids.all_seen(ids.some(log, 4))
-    return lines + [ids.seen(ids.at(logs[4])), ids.seen(ids.at(logs[5])), ids.seen(ids.at(100))] + SHOW
+    return lines + [ids.seen(ids.at(logs[4])), ids.seen(ids.at(logs[5])), ids.seen(ids.at(101))] + SHOW
 
 
 def all_entries_thin(stream):
     """128 entries of which no log distance has more than 15: every newcomer is refused with 21, and there is no replacement."""
     ids, lines = start(stream)
-    nodes = [ids.at(200 + n % 9) for n in range(ENTRIES - 1)]
+    nodes = [ids.at(201 + n % 9) for n in range(ENTRIES - 1)]
     lines += ids.all_seen(nodes)
-    late = ids.some(201, 3)
-    lines += ids.all_seen(late) + [ids.seen(ids.at(199)), 'waiting'] + [failed(nodes[0])] * 4 + [ids.seen(late[1]), entry(nodes[0]), ids.seen(nodes[0]), entry(nodes[0])]
+    late = ids.some(202, 3)
+    lines += ids.all_seen(late) + [ids.seen(ids.at(200)), 'waiting'] + [failed(nodes[0])] * 4 + [ids.seen(late[1]), entry(nodes[0]), ids.seen(nodes[0]), entry(nodes[0])]
     return lines + SHOW
 
 
@@ -140,7 +141,7 @@ def failures(stream):
     for count, waiting in ((1, 0), (ENTRIES_EACH - 1, 0), (ENTRIES_EACH, 0), (ENTRIES_EACH, 1), (ENTRIES_EACH, REPLACEMENTS_EACH)):
         for place in sorted({0, count // 2, count - 1}):
             ids, made = start(stream)
-            nodes = ids.some(130, count + waiting)
+            nodes = ids.some(131, count + waiting)
             lines += made + [failed(nodes[0])] + ids.all_seen(nodes)
             for _ in range(FLAG + 2):
                 lines += [failed(nodes[place]), entry(nodes[place]), 'waiting']
@@ -151,7 +152,7 @@ def failures(stream):
 def in_a_row(stream):
     """A sighting between failures begins the count anew; another entry's failures and sightings do not."""
     ids, lines = start(stream)
-    one, other = ids.some(77, 2)
+    one, other = ids.some(78, 2)
     lines += ids.all_seen([one, other])
     for before in range(FLAG + 2):
         lines += [failed(one)] * before + [entry(one), ids.seen(other), failed(other), entry(one), ids.seen(one), entry(one)]
@@ -162,8 +163,8 @@ def in_a_row(stream):
 def flagged(stream):
     """A flagged entry keeps its place until it fails again; then the newcomer that waits takes it."""
     ids, lines = start(stream)
-    nodes, made = ids.full(90)
-    late, later = ids.some(90, 2)
+    nodes, made = ids.full(91)
+    late, later = ids.some(91, 2)
     lines += made + [failed(nodes[5])] * 3 + [entry(nodes[5]), ids.seen(late), entry(late), entry(nodes[5])] + SHOW
     lines += [failed(nodes[5]), entry(nodes[5]), entry(late), failed(nodes[5])] + SHOW
     # the one that made way comes back as a newcomer, waits, and gets a place with no failures
@@ -172,7 +173,7 @@ def flagged(stream):
     lines += [failed(nodes[0])] * 3 + [ids.seen(later), ids.seen(nodes[0]), failed(nodes[0]), failed(nodes[0]), entry(nodes[0]), failed(nodes[0])] + SHOW
     # where the log distance has room a newcomer is an entry, and the flagged one stays flagged
     ids, made = start(stream)
-    one, two = ids.some(90, 2)
+    one, two = ids.some(91, 2)
     return lines + made + [ids.seen(one)] + [failed(one)] * 3 + [ids.seen(two), failed(one), entry(one), entry(two)] + SHOW
 
 
@@ -181,17 +182,17 @@ def most_recent(stream):
     lines = []
     for place in range(REPLACEMENTS_EACH):
         ids, made = start(stream)
-        nodes, seen = ids.full(33, REPLACEMENTS_EACH)
+        nodes, seen = ids.full(34, REPLACEMENTS_EACH)
         waiting = nodes[ENTRIES_EACH:]
-        lines += made + seen + ['waiting', ids.seen(waiting[place]), 'waiting', entry(waiting[place]), ids.seen(ids.at(33)), 'waiting']
+        lines += made + seen + ['waiting', ids.seen(waiting[place]), 'waiting', entry(waiting[place]), ids.seen(ids.at(34)), 'waiting']
         lines += [ids.seen(waiting[place]), 'waiting'] + [failed(nodes[1])] * 3 + [entry(waiting[place])] + SHOW
         # the rest are promoted one after the other, the last seen first, and then the failed entry is flagged
         for node in nodes[2:6]:
             lines += [failed(node)] * 3 + ['waiting', entry(node)]
-        lines += [ids.seen(ids.at(33)), 'waiting', 'rows']
+        lines += [ids.seen(ids.at(34)), 'waiting', 'rows']
     # other log distances stand between them and play no part
     ids, made = start(stream)
-    far, near = ids.full(40, 2), ids.full(41, 2)
+    far, near = ids.full(41, 2), ids.full(42, 2)
     lines += made + far[1] + near[1] + ['waiting', ids.seen(far[0][-2]), ids.seen(near[0][-1]), 'waiting']
     return lines + [failed(far[0][3])] * 3 + ['waiting'] + [failed(near[0][3])] * 3 + SHOW
 
@@ -199,7 +200,7 @@ def most_recent(stream):
 def fields(stream):
     """A sighting brings every field anew, of an entry and of a replacement, and of no other; each field at its ends."""
     ids, lines = start(stream)
-    nodes, made = ids.full(222, 2)
+    nodes, made = ids.full(223, 2)
     lines += made
     for node in (nodes[0], nodes[7], nodes[16], nodes[17]):
         for said in ((0, bytes(4), 0), (ONES, b'\xff' * 4, 65535), (ONES, bytes(4), 0), (1, b'\0\0\0\1', 1), (1 << 255, b'\x80\0\0\0', 32768), (1, b'\0\0\0\1', 256), (1, b'\x0a\0\0\x7f', 255)):
@@ -211,10 +212,10 @@ def fields(stream):
 def anew(stream):
     """A table made anew has forgotten everything; an index and a table do not touch each other."""
     ids, lines = start(stream)
-    nodes, made = ids.full(200, 3)
+    nodes, made = ids.full(201, 3)
     lines += made + [failed(nodes[0]), table(ids.own)] + SHOW + [entry(nodes[0]), entry(nodes[-1]), failed(nodes[0]), ids.seen(nodes[-1]), entry(nodes[-1])]
     # an id that was ours is an id like any other
-    other = ids.at(200)
+    other = ids.at(201)
     lines += [table(other), ids.seen(other), ids.seen(ids.own), entry(ids.own), failed(ids.own)] + SHOW
     lines += ['fresh %s %s' % (digits(7), digits(ONES)), 'store 000000000000000000 c0'] + SHOW + [table(other), 'keys'] + SHOW
     return lines
@@ -223,7 +224,7 @@ def anew(stream):
 def no_calls(stream):
     """Words of another size or form."""
     ids, lines = start(stream)
-    node = ids.at(60)
+    node = ids.at(61)
     good = ids.seen(node)
     name, one, radius, address, port = good.split()
     lines += [good]
@@ -261,6 +262,6 @@ def routing_lines():
     lines = SHOW + [entry(0), seen_as(0, 1, bytes(4), 2), failed(0), failed(1), seen_as(1, 2, bytes(4), 3), entry(1)] + SHOW
     for part in (of_one_log, small_logs, all_waiting, all_entries, all_entries_thin, failures, in_a_row, flagged, most_recent, fields, anew, no_calls):
         lines += part(stream)
-    lines += random_run(stream, 400, [255], 22) + random_run(stream, 700, [3, 4, 5], 8) + random_run(stream, 900, [252, 253], 24)
-    lines += random_run(stream, 1500, range(246, 254), 24) + random_run(stream, 1500, range(100, 111), 20)
+    lines += random_run(stream, 400, [256], 22) + random_run(stream, 700, [4, 5, 6], 8) + random_run(stream, 900, [253, 254], 24)
+    lines += random_run(stream, 1500, range(247, 255), 24) + random_run(stream, 1500, range(101, 112), 20)
     return [line.encode() for line in lines]

@@ -1,6 +1,5 @@
 // The calls that a line can make, by its first word.
 use crate::help;
-use crate::keys;
 use console_text::answer;
 use console_text::words;
 use console_text::words::Words;
@@ -11,6 +10,7 @@ enum Call {
     Id,
     Distance,
     Interested,
+    Asked,
     Content,
     Read,
     Write,
@@ -129,7 +129,7 @@ fn routed(
             Answered { state, len }
         }
         _ => {
-            let len = asked(call, state.index, line, words, data, out);
+            let len = unchanged(call, state.index, line, words, data, out);
             Answered { state, len }
         }
     }
@@ -164,7 +164,7 @@ fn buffer(state: State, line: &[u8], words: Words, out: &mut [u8]) -> Answered {
 }
 
 // The calls that change nothing.
-fn asked(
+fn unchanged(
     call: Call,
     index: KeyIndex,
     line: &[u8],
@@ -173,9 +173,10 @@ fn asked(
     out: &mut [u8],
 ) -> usize {
     match call {
-        Call::Id => keys::id(line, words, data, out),
-        Call::Distance => keys::distance(line, words, out),
-        Call::Interested => keys::interested(line, words, data, out),
+        Call::Id => console_keys::id(line, words, data, out),
+        Call::Distance => console_keys::distance(line, words, out),
+        Call::Interested => console_keys::interested(line, words, data, out),
+        Call::Asked => console_keys::asked(line, words, data, out),
         Call::Content => console_messages::content(line, words, data, out),
         Call::Read => console_messages::read(line, words, data, out),
         Call::Radius => console_index::radius(index, words, out),
@@ -195,6 +196,9 @@ fn call_of(name: &[u8]) -> Call {
     }
     if check::same(name, b"interested") {
         return Call::Interested;
+    }
+    if check::same(name, b"asked") {
+        return Call::Asked;
     }
     if check::same(name, b"content") {
         return Call::Content;

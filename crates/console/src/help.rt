@@ -10,7 +10,7 @@ pub fn help(words: Words, out: &mut [u8]) -> usize {
     let keys = answer::text(
         out,
         0,
-        b"help: id KEY; distance A B; interested NODE RADIUS KEY; content BYTES; ",
+        b"help: id KEY; distance A B; interested NODE RADIUS KEY; asked DISTANCES CLASS; content BYTES; ",
     );
     let writing = answer::text(
         out,

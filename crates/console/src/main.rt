@@ -4,7 +4,6 @@ ghost use lib.ListN.{length};
 
 mod calls;
 mod help;
-mod keys;
 
 use calls::Answered;
 use calls::State;

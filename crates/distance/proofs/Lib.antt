@@ -1,3 +1,5 @@
 pub mod Exclusive
-pub mod Logarithm
+pub mod BitLength
+pub mod LogDistances
+pub mod Requests
 pub mod Tested

@@ -1,11 +1,10 @@
-// Distances between 32-byte values: exclusive or, order heaviest byte first, a radius, the log distance.
+// Distances between 32-byte values: exclusive or, order heaviest byte first, a radius, the log distance and what asks for it.
 //
 // Ids, radii and distances are arrays of 32 bytes by value, the first byte heaviest.
-ghost use Prim.Native.Nat.{_<_};
 ghost use mathlib.Core.Path.{_≡_};
 ghost use lib.Dec.{leb};
 ghost use Rattle.octets.specs.Bytes.{be};
-ghost use Rattle.distance.specs.Distance.{xorOf, withinOf, logBelow, logDistanceOf};
+ghost use Rattle.distance.specs.Distance.{xorOf, withinOf, logDistanceOf, askedOf};
 
 // The exclusive or of two values: their distance.
 pub fn xor(a: [u8; 32], b: [u8; 32]) -> [u8; 32]
@@ -40,30 +39,31 @@ pub fn within(node: [u8; 32], id: [u8; 32], radius: [u8; 32]) -> bool
     at_most(xor(node, id), radius)
 }
 
-// The base-two logarithm of the distance, rounded down, and 0 for equal ids.
-pub fn log_distance(a: [u8; 32], b: [u8; 32]) -> u8
+// The bit length of the distance: 0 for equal ids, 1 for distance 1, up to 256. The first byte that is not 0 gives it: of the bits from that
+// byte on, all count but its leading zeros.
+pub fn log_distance(a: [u8; 32], b: [u8; 32]) -> u16
     ensures { λ r. ⌜ r ≡ logDistanceOf a b ⌝ }
 {
     let d = xor(a, b);
-    let mut weight = 248u8;
-    for i in 0..31 {
-        if d[i] != 0 {
-            return weight + log_byte(d[i]);
+    let mut bits = 256u16;
+    for at in 0..32 {
+        if d[at] != 0 {
+            return bits - u8::leading_zeros(d[at]) as u16;
         }
-        weight -= 8;
+        bits -= 8;
     }
-    log_byte(d[31])
+    0
 }
 
-// The base-two logarithm of a byte, rounded down, and 0 for 0.
-fn log_byte(b: u8) -> u8
-    ensures { λ r. ⌜ (r ≡ logBelow 8 b) × (r < 8) ⌝ }
+// Whether the distances of a FindNode ask for a log distance. Each is one byte, so 256 is never asked for.
+pub fn asked(distances: &[u8], log: u16) -> bool
+    ensures { λ r. ⌜ r ≡ askedOf (now (distances .entry)) log ⌝ }
 {
-    let mut rest = b;
-    let mut log = 0;
-    while 1 < rest {
-        rest /= 2;
-        log += 1;
+    let wanted = log as usize;
+    for i in 0..distances.len() {
+        if wanted == octets::wide(distances[i]) {
+            return true;
+        }
     }
-    log
+    false
 }

@@ -62,7 +62,7 @@ fn show_logs() {
     );
 }
 
-// Our own id among the replacements breaks another rule too: no more than two ids have its log distance.
+// Our own id among the replacements breaks another rule too: no other id has its log distance.
 fn show_ids() {
     let some = tables::some();
     show(

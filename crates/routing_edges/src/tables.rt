@@ -5,7 +5,7 @@ use routing_table::Entry;
 use routing_table::REPLACEMENTS;
 use routing_table::RoutingTable;
 
-// The id that differs from our own by a and b in its last two bytes: where a is not 0, its log distance is 8 and that of a.
+// The id that differs from our own by a and b in its last two bytes: where a is not 0, its log distance is 8 and the bit length of a.
 pub fn id(a: u8, b: u8) -> [u8; 32] {
     let mut id = [90u8; 32];
     id[30] = 90 ^ a;

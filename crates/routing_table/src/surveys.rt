@@ -76,7 +76,7 @@ fn fitted<'a>(
     if !rules::fit(entries, replacements) {
         return nothing();
     }
-    let d = distance::log_distance(own, id) as u16;
+    let d = distance::log_distance(own, id);
     told(
         own,
         id,
@@ -161,7 +161,7 @@ fn logs_of(own: [u8; 32], ids: &[[u8; 32]]) -> [u16; IDS]
 {
     let mut logs = [0u16; IDS];
     for i in 0..ids.len() {
-        logs[i] = distance::log_distance(own, ids[i]) as u16;
+        logs[i] = distance::log_distance(own, ids[i]);
     }
     logs
 }

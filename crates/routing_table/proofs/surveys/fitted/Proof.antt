@@ -44,9 +44,6 @@ returns c =
 log-distance-requires : tie.Need-log-distance-requires
 log-distance-requires c κs = search needs
 
-cast-d : tie.Need-cast-d
-cast-d c = search needs
-
 sub-told : tie.Need-sub-told
 sub-told c = search needs
 
@@ -93,7 +90,6 @@ fitted-spec =
     nothing-requires
     returns
     log-distance-requires
-    cast-d
     sub-told
     part-told-start
     part-told-end

@@ -30,9 +30,6 @@ shared-slice-copy-out-log-distance c = search needs
 log-distance-requires : tie.Need-log-distance-requires Inv-loop μ-loop
 log-distance-requires c κs = search needs
 
-cast-logs : tie.Need-cast-logs Inv-loop μ-loop
-cast-logs c = search needs
-
 mul-logs : tie.Need-mul-logs Inv-loop μ-loop
 mul-logs c = search needs
 
@@ -76,7 +73,6 @@ logs-of-spec =
     mul-log-distance
     shared-slice-copy-out-log-distance
     log-distance-requires
-    cast-logs
     mul-logs
     array-write-logs
     add-i

@@ -1,4 +1,6 @@
-// The calls on keys, ids and distances.
+// The console's calls on keys, ids and distances.
+//
+// A part of the program `console`: its functions are proved to be safe and to end, and what they answer is tested with the program.
 use console_text::answer;
 use console_text::words;
 use console_text::words::Words;
@@ -68,4 +70,19 @@ pub fn interested(line: &[u8], words: Words, data: &mut [u8], out: &mut [u8]) ->
         Interest::No => answer::text(out, 0, b"no\n"),
         Interest::Refused(why) => answer::refused(out, why),
     }
+}
+
+// asked DISTANCES CLASS
+pub fn asked(line: &[u8], words: Words, data: &mut [u8], out: &mut [u8]) -> usize {
+    let class = words::number(words::word(line, words, 2));
+    if words.count != 3 || !class.good || 65535 < class.value {
+        return answer::error(out);
+    }
+    let Decoded::Bytes(n) = words::bytes(words::word(line, words, 1), data) else {
+        return answer::error(out);
+    };
+    if distance::asked(words::front(data, n), (class.value % 65536) as u16) {
+        return answer::text(out, 0, b"yes\n");
+    }
+    answer::text(out, 0, b"no\n")
 }

@@ -1,6 +1,6 @@
 """The inputs that the programs are run on."""
 from history import digits, distance, key_id, make_key
-from index_cases import index_lines
+from index_cases import content_edges, index_lines
 from message_cases import all_messages, write_lines
 from rlp import header
 from routing_cases import routing_lines
@@ -48,7 +48,7 @@ def lister_input():
 def console_input():
     stream = Stream('console')
     lines = id_lines(stream) + distance_lines(stream) + class_lines() + asked_lines() + interest_lines(stream)
-    lines += [b'content ' + (c.hex().encode() or b'-') for c in contents(stream)]
+    lines += [b'content ' + (c.hex().encode() or b'-') for c in contents(stream) + content_edges()]
     lines += [b'read ' + (m.hex().encode() or b'-') for m in all_messages(stream)]
     return b'\n'.join(lines + write_lines(stream) + index_lines(stream) + snapshot_lines(stream) + routing_lines() + no_calls(stream)) + b'\n'
 

@@ -109,9 +109,7 @@ class Console:
         return yes_or_no(asked(data(distances), number(log, 65535)))
 
     def content(self, content):
-        if not rlp.acceptable(data(content)):
-            raise Refused(9)
-        return 'accepted'
+        return 'accepted %d %d' % rlp.examine(data(content))
 
     def read(self, message):
         return messages.words(*messages.read(data(message)))
@@ -132,8 +130,8 @@ class Console:
 
     def store(self, key, content):
         key, content = data(key), data(content)
-        evicted = self.index.store(key, content)
-        return 'stored' if evicted is None else 'stored evicted ' + evicted.hex()
+        place, evicted = self.index.store(key, content)
+        return 'stored %d %d' % place + ('' if evicted is None else ' evicted ' + evicted.hex())
 
     def remove(self, key):
         self.index.remove(data(key))

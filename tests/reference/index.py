@@ -1,6 +1,6 @@
 """The key index: the keys held, nearest first, with document 01's rules for storing, removing, saving and reloading."""
 from history import Refused, digits, distance, key, key_id, unhex
-from rlp import acceptable
+from rlp import examine
 
 LIMIT = 240
 
@@ -16,16 +16,15 @@ class Index:
         return self.cap if len(self.keys) < LIMIT else max(map(self.away, self.keys))
 
     def store(self, data, content):
-        """The evicted key, or None."""
+        """Start and length of the payload, and the evicted key or None."""
         key(data)
-        if not acceptable(content):
-            raise Refused(9)
+        place = examine(content)
         if data in self.keys:
             raise Refused(11)
         if self.away(data) > self.radius():
             raise Refused(10)
         self.keys = sorted(self.keys + [data], key=self.away)
-        return self.keys.pop() if len(self.keys) > LIMIT else None
+        return place, self.keys.pop() if len(self.keys) > LIMIT else None
 
     def remove(self, data):
         key(data)

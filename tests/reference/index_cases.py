@@ -1,6 +1,7 @@
 """Calls on the index: document 01's full case, caps at the edge, removals at every place, and long random runs."""
 from history import digits, distance, key_id, make_key
 from index import LIMIT
+from rlp import header
 
 ONES = 2**256 - 1
 EMPTY, WHOLE = b'\xc0', b'\xf8\x38' + bytes(56)
@@ -59,7 +60,7 @@ def removals(stream):
 
 
 def refusals(stream):
-    """Every refusal, and pairs of faults: 7, 8, 9, 11, 10 in that order when storing."""
+    """Every refusal, and pairs of faults: 7, 8, 16, 9, 11, 10 in that order when storing."""
     held, far = make_key(0, 5), make_key(1, 6)
     node = key_id(held)
     lines = [fresh(node, 0), store(held, WHOLE)]
@@ -69,6 +70,32 @@ def refusals(stream):
             lines.append(store(key, content))
         lines.append(remove(key))
     return lines + SHOW + [store(held)] + SHOW
+
+
+def content_edges():
+    """Content on each side of every edge between accepted, ended early and wrong, and cut and lengthened at every byte of its header."""
+    zeros = [b'\xf7' + bytes(n) for n in (0, 54, 55, 56)] + [b'\xc0' + bytes(n) for n in (1, 2)] + [b'\xc1' + bytes(n) for n in (0, 1, 2)]
+    zeros += [b'\xf8\x37' + bytes(n) for n in (0, 54, 55, 56)] + [b'\xf8\x38' + bytes(n) for n in (0, 55, 56, 57)]
+    zeros += [b'\xf8\xff' + bytes(n) for n in (254, 255, 256)] + [b'\xf9\1\0' + bytes(n) for n in (255, 256, 257)]
+    heads = ['f8', 'f800', 'f801', 'f837', 'f838', 'f9', 'f900', 'f901', 'f9ff', 'f90000', 'f90037', 'f90038', 'f900ff', 'f90100', 'fa', 'fa00', 'fa0001', 'fa01', 'fa0100']
+    heads += ['bf', 'b8', 'ff', 'ff00', 'ff01', 'ff' * 2, 'ff00' + 'ff' * 7, 'ff' * 8, 'ff' * 9, 'ff' * 10, 'ff80' + '00' * 7, 'ff' + '00' * 7 + '38', 'ff01' + '00' * 7]
+    found = zeros + [bytes.fromhex(head) for head in heads]
+    for size in (0, 1, 55, 56, 255, 256, 400):
+        whole = header(size) + bytes(range(1, 1 + size % 251))[:size].ljust(size, b'\7')
+        cuts = set(range(6)) | {len(whole) - n for n in (1, 2)}
+        found += [whole[:n] for n in sorted(cuts) if 0 <= n < len(whole)] + [whole, whole + b'\0', whole + whole]
+    return found
+
+
+def places():
+    """Each of those contents stored, refused and accepted, also where a key is held, and with a key evicted."""
+    edges = content_edges()
+    lines = [fresh(0, ONES)] + [store(make_key(0, n), content) for n, content in enumerate(edges)] + SHOW
+    lines += [store(make_key(0, 2), content) for content in edges[:12]]
+    lines += [fresh(0, ONES)] + [store(make_key(0, n)) for n in range(LIMIT)]
+    lines += [store(make_key(1, n), content) for n, content in enumerate(edges)] + SHOW
+    # too far as well as cut off or wrong: the content is tested first
+    return lines + [store(make_key(0, 2**40), content) for content in edges[:12] + [EMPTY, WHOLE, b'']]
 
 
 def random_run(stream, calls, pool, node, cap):
@@ -100,5 +127,5 @@ def index_lines(stream):
             lines.append(remove(stream.pick(keys[: n + 1])))
         if n % 50 == 0:
             lines.append('radius')
-    lines += SHOW + random_run(stream, 1500, 600, node, ONES >> 1)
+    lines += SHOW + random_run(stream, 1500, 600, node, ONES >> 1) + places()
     return [line.encode() for line in lines]

@@ -20,14 +20,14 @@ def barred(text):
 
 
 def lines(name, cap, count, keys):
-    def tell(call, word=None):
+    def tell(call, hands_back=False):
+        """The answer, after whether the index handed back is the very one, where the call hands one back."""
         try:
             if broken(index, count):
                 raise Refused(0)
-            answer = call()
-            return (word and 'another index, ' + word) or answer
+            return 'another index, ' * hands_back + call()
         except Refused as why:
-            return (word and 'the very index, ' or '') + 'refused %d' % why.number
+            return 'the very index, ' * hands_back + 'refused %d' % why.number
 
     def made():
         found = Index(0, cap)
@@ -38,9 +38,10 @@ def lines(name, cap, count, keys):
     yield name
     yield '  radius ' + tell(lambda: digits(index.radius()))
     yield '  holds body 1: ' + tell(lambda: 'yes' if FIRST in index.keys else 'no')
-    yield '  store body 0: ' + tell(lambda: index.store(bytes(9), b'\xc0'), 'stored')
-    index = made()
-    yield '  remove body 1: ' + tell(lambda: index.remove(FIRST), 'removed')
+    for name, content in (('', b'\xc0'), (', content cut off', b'\xc1')):
+        yield '  store body 0%s: ' % name + tell(lambda: 'stored %d %d' % index.store(bytes(9), content)[0], True)
+        index = made()
+    yield '  remove body 1: ' + tell(lambda: index.remove(FIRST) or 'removed', True)
     index = made()
     yield '  save: all else as it was, ' + tell(lambda: barred(index.save()))
     again = tell(lambda: 'loaded ' + barred(load(index.save()).save()))

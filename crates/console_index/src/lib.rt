@@ -9,6 +9,7 @@ use key_index::KeyIndex;
 use key_store::Stored;
 use refusal::Checked;
 use refusal::Wrote;
+use rlp::Payload;
 
 // The index to go on with, and the length of the answer.
 pub struct Reply {
@@ -70,14 +71,24 @@ fn put(index: KeyIndex, key: &[u8], content: &[u8], out: &mut [u8]) -> Reply {
 
 fn stored(how: Stored, evicted: [u8; 9], out: &mut [u8]) -> usize {
     match how {
-        Stored::Kept => answer::text(out, 0, b"stored\n"),
-        Stored::Evicting => {
-            let said = answer::text(out, 0, b"stored evicted ");
+        Stored::Kept(payload) => {
+            let at = stored_at(payload, out);
+            answer::end(out, at)
+        }
+        Stored::Evicting(payload) => {
+            let at = stored_at(payload, out);
+            let said = answer::text(out, at, b" evicted ");
             let last = answer::digits(out, said, &evicted);
             answer::end(out, last)
         }
         Stored::Refused(why) => answer::refused(out, why),
     }
+}
+
+// A stored key's word, and where the payload of its content stands.
+fn stored_at(payload: Payload, out: &mut [u8]) -> usize {
+    let said = answer::text(out, 0, b"stored ");
+    answer::decimals(out, said, payload.start, payload.len)
 }
 
 // remove KEY

@@ -9,7 +9,8 @@ use console_text::words::Words;
 use hex::Decoded;
 use message::Kind;
 use message::Reading;
-use refusal::Checked;
+use rlp::Examined;
+use rlp::Payload;
 pub use writing::write;
 
 // content BYTES
@@ -20,11 +21,18 @@ pub fn content(line: &[u8], words: Words, data: &mut [u8], out: &mut [u8]) -> us
     let Decoded::Bytes(n) = words::bytes(words::word(line, words, 1), data) else {
         return answer::error(out);
     };
-    let checked = rlp::check(words::front(data, n));
-    match checked {
-        Checked::Accepted => answer::text(out, 0, b"accepted\n"),
-        Checked::Refused(why) => answer::refused(out, why),
+    let examined = rlp::check(words::front(data, n));
+    match examined {
+        Examined::Accepted(payload) => accepted(payload, out),
+        Examined::Refused(why) => answer::refused(out, why),
     }
+}
+
+// Where the payload of acceptable content stands.
+fn accepted(payload: Payload, out: &mut [u8]) -> usize {
+    let said = answer::text(out, 0, b"accepted ");
+    let last = answer::decimals(out, said, payload.start, payload.len);
+    answer::end(out, last)
 }
 
 // read MESSAGE

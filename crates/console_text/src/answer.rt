@@ -32,6 +32,13 @@ pub fn decimal(out: &mut [u8], at: usize, n: u64) -> usize {
     text(out, at, &digits[..k])
 }
 
+// Two numbers with a space between them.
+pub fn decimals(out: &mut [u8], at: usize, first: usize, second: usize) -> usize {
+    let said = decimal(out, at, first as u64);
+    let space = text(out, said, b" ");
+    decimal(out, space, second as u64)
+}
+
 // A snapshot's text, with `|` for each line feed.
 pub fn bars(out: &mut [u8], at: usize, text: &[u8]) -> usize {
     if out.len() < at {

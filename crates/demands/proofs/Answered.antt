@@ -28,17 +28,17 @@ use Rattle.demands.specs.Answered.{viewed, storeSays, checkSays, Answere
 -- a store call: the view to go on with, and what is said
 abbrev storeDoes : stores.Given → View box × Answer box
 storeDoes (stores.back says index) = (viewed index, refused says)
-storeDoes (stores.now v) = (grouped v, stored)
-storeDoes (stores.without key v) = (grouped v, evicted key)
+storeDoes (stores.now payload v) = (grouped v, stored)
+storeDoes (stores.without payload key v) = (grouped v, evicted key)
 
 store-by : (index : KeyIndex) (s : Storing) → afterStore (viewed index) s ≡ storeDoes (stores.givenBy index s)
 store-by index (Storing.refused says) = refl
-store-by index (Storing.stored v) = refl
-store-by index (Storing.evicted key v) = refl
+store-by index (Storing.stored payload v) = refl
+store-by index (Storing.evicted payload key v) = refl
 
 store-said : (r : StoreAnswer) (s : Stored) → storeDoes (stores.answeredBy r s) ≡ (viewed (r .index), storeSays (r .evicted) s)
-store-said r Stored.Kept = refl
-store-said r Stored.Evicting = refl
+store-said r (Stored.Kept payload) = refl
+store-said r (Stored.Evicting payload) = refl
 store-said r (Stored.Refused why) = refl
 
 -- a remove call

@@ -4,7 +4,7 @@ use Prim.Native.Nat.{ℕ, _<_}
 use native.Mathlib.Omega.{arith}
 use mathlib.Core.Path.{_≡_, refl, sym, ap, subst}
 use mathlib.Core.Bool.{Bool, true, false, cond}
-use mathlib.Core.Logic.{_↔_}
+use mathlib.Core.Logic.{_↔_, _⊎_, inl, inr}
 use mathlib.Core.List.{List}
 use mathlib.Core.Option.{none, some}
 use lib.Dec.{eqb, leb}
@@ -13,12 +13,14 @@ use borrow.Author.Tests.{eqb-true, leb-true}
 use Rattle.refusal.specs.Says.{Said, only, atLine, numberIn}
 use Rattle.refusal.specs.Outcome.{Outcome, given, refusal, refused}
 use Rattle.content_key.specs.Key.{selectorOf, keyOf}
-use Rattle.rlp.specs.Content.{acceptable}
+use Rattle.rlp.specs.Content.{contentOf}
+use Rattle.rlp.specs.declared.Payload.{Payload}
+use Rattle.rlp.proofs.Contents.{refused-by}
 use Rattle.runs.specs.Setting.{Laws}
 use Rattle.key_index.specs.Good.{awayFrom}
 use Rattle.key_store.proofs.Facts.{away-inj}
 use Rattle.snapshot.specs.Load.{Loading, badLine, loaded, loadOf}
-use Rattle.demands.specs.Box.{Owner, ValidOwner, ValidKey, Raw, keyFrom, faultOf, viewIn, textFrom}
+use Rattle.demands.specs.Box.{Owner, ValidOwner, ValidKey, Raw, keyFrom, faultIn, faultOf, viewIn, textFrom}
 use Rattle.demands.specs.Setting.{box}
 
 -- keys are equal exactly when they are at one distance
@@ -55,13 +57,17 @@ key-number raw r e = go (eqb (length (raw .bytes)) 9) (leb (selectorOf (raw .byt
     go true false f = let z : only 8 ≡ r = cc in rw (sym z) (omega arith)
     go false t f = let z : only 7 ≡ r = cc in rw (sym z) (omega arith)
 
--- content by 9
+-- content by 16 or 9
 fault-number : (content : List ℕ) (r : Said) → faultOf content ≡ some r → 0 < numberIn r
-fault-number content r e = go (acceptable content) e
+fault-number content r e = go (contentOf content) refl e
   where
-    go : (t : Bool) → cond t none (some (only 9)) ≡ some r → 0 < numberIn r
-    go true f = let z : _≡_ {A = ℕ} 0 1 = cc in absurd (omega arith)
-    go false f = let z : only 9 ≡ r = cc in rw (sym z) (omega arith)
+    number : (says : Said) → (says ≡ only 16) ⊎ (says ≡ only 9) → 0 < numberIn says
+    number says (inl n) = rw n (omega arith)
+    number says (inr n) = rw n (omega arith)
+
+    go : (o : Outcome Payload) → contentOf content ≡ o → faultIn o ≡ some r → 0 < numberIn r
+    go (given payload) c f = let z : _≡_ {A = ℕ} 0 1 = cc in absurd (omega arith)
+    go (refusal says) c f = let z : says ≡ r = cc in rw (sym z) (number says (refused-by content says c))
 
 -- a text by 14
 text-number : (text : List ℕ) (r : Said) → textFrom text ≡ refusal r → 0 < numberIn r

@@ -2,14 +2,13 @@
 use Prim.Native.Nat.{ℕ, _≤_}
 use native.Mathlib.Omega.{arith}
 use mathlib.Core.Path.{_≡_, refl, sym, ap, subst, _∙_}
-use mathlib.Core.Bool.{Bool, true, false, cond, true≢false}
+use mathlib.Core.Bool.{Bool, true, false, true≢false}
 use mathlib.Core.List.{List}
-use mathlib.Core.Option.{none, some}
-use Rattle.refusal.specs.Says.{only}
 use Rattle.refusal.specs.Outcome.{Outcome}
 use Rattle.octets.proofs.Equal.{member-holds}
 use Rattle.content_key.specs.Key.{keyOf}
 use Rattle.content_key.proofs.Keys.{key-length, key-selector, key-given}
+use Rattle.rlp.specs.declared.Payload.{Payload}
 use Rattle.runs.specs.Views.{View, Call, store, remove, reload, Answer, Good, radius, Held}
 use Rattle.runs.specs.Done.{Admitted, noKey, unfit, held, beyond, noKeyOut, absent, badText, Taken, Done, refusing, storing, removing, reloading, Index}
 use Rattle.runs.proofs.Views.{radius-room, radius-full}
@@ -27,7 +26,7 @@ use Rattle.key_remove.proofs.Cases.{remove-no-key, remove-absent, remove-held}
 use Rattle.key_remove.proofs.Without.{without-split}
 use Rattle.snapshot.specs.Load.{Loading, badLine, loaded, loadOf}
 use Rattle.snapshot.proofs.RoundTrip.{loaded-written}
-use Rattle.demands.specs.Box.{Raw, grouped, spread, viewIn}
+use Rattle.demands.specs.Box.{Raw, grouped, spread, faultIn, viewIn}
 use Rattle.demands.specs.Setting.{box}
 use Rattle.demands.specs.Step.{afterStore, afterRemove, afterReload, step}
 use Rattle.demands.proofs.Laws.{laws}
@@ -40,15 +39,15 @@ Does v c after = Done box v c (after .0) (after .1)
 module _ (v : View box) (g : Good box v) where
   module _ (raw : Raw) (content : List ℕ) where
     -- what storing knows of its key, in the terms of `runs`: it is admitted, new, taken
-    asked : Asked 240 (spread v) (raw .bytes) content → Admitted box (v .owner) raw content (raw .bytes)
-    asked a =
+    asked : {payload : Payload} → Asked 240 (spread v) (raw .bytes) content payload → Admitted box (v .owner) raw content (raw .bytes)
+    asked {payload} a =
         admitted-iff (v .owner) raw content (raw .bytes) .1
-        (refl, (record { nine = record { size = a .size; bytes = raw .each }; selector = a .selector }, a .listed))
+        (refl, (record { nine = record { size = a .size; bytes = raw .each }; selector = a .selector }, (payload, a .listed)))
 
     new : Fresh (spread v) (raw .bytes) → ¬ Held box v (raw .bytes)
     new f h = f .out (held-iff box v equal (raw .bytes) .0 h)
 
-    taken : Asked 240 (spread v) (raw .bytes) content → Fresh (spread v) (raw .bytes) → awayFrom (v .owner .node) (raw .bytes) ≤ radius box v
+    taken : {payload : Payload} → Asked 240 (spread v) (raw .bytes) content payload → Fresh (spread v) (raw .bytes) → awayFrom (v .owner .node) (raw .bytes) ≤ radius box v
         → Taken box v raw content (raw .bytes)
     taken a f h = record { admitted = asked a; new = new f; near = h }
 
@@ -58,8 +57,7 @@ module _ (v : View box) (g : Good box v) where
     store-case (case.bad h) = absurd (true≢false (sym (good-passes v g) ∙ h))
     store-case (case.no-length h l) = refusing (noKey (key-length (raw .bytes) l))
     store-case (case.no-selector h l s) = refusing (noKey (key-selector (raw .bytes) l s))
-    store-case (case.no-content h l s t) =
-        refusing (unfit (key-given (raw .bytes) l s) (ap (λ (b : Bool). cond b none (some (only 9))) t))
+    store-case (case.no-content h l s t) = refusing (unfit (key-given (raw .bytes) l s) (ap faultIn t))
     store-case (case.held a m) = refusing (held (asked a) m)
     store-case (case.beyond a f h) = refusing (beyond (asked a) (new f) (omega (arith, radius-is v)))
     store-case (case.room a f h w) = storing (taken a f (omega (arith, radius-room laws v h))) h

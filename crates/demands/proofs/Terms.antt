@@ -5,17 +5,17 @@ use Prim.Native.Nat.{ℕ, _≤_, _<_}
 use native.Mathlib.Decide.{decLt}
 use native.Mathlib.Omega.{arith}
 use mathlib.Core.Path.{_≡_, refl, sym, ap, _∙_}
-use mathlib.Core.Bool.{Bool, true, false, cond}
-use mathlib.Core.Option.{Option, none, some}
+use mathlib.Core.Bool.{true}
+use mathlib.Core.Option.{none}
 use mathlib.Core.Logic.{_↔_}
 use mathlib.Core.List.{List, [], _∷_, List·Memᴰ·head as here, List·Memᴰ·tail as there}
 use lib.ListN.{length}
 use Rattle.octets.specs.Bytes.{be}
-use Rattle.refusal.specs.Says.{Said, only}
-use Rattle.refusal.specs.Outcome.{given}
+use Rattle.refusal.specs.Outcome.{Outcome, given, refusal}
 use Rattle.content_key.specs.Key.{selectorOf, keyOf}
 use Rattle.content_key.proofs.Keys.{key-given}
-use Rattle.rlp.specs.Content.{acceptable}
+use Rattle.rlp.specs.Content.{contentOf}
+use Rattle.rlp.specs.declared.Payload.{Payload}
 use Rattle.nearest.specs.Sorted.{_among_}
 use Rattle.runs.specs.Views.{View, Good, radius, Gives}
 use Rattle.runs.specs.Done.{Admitted}
@@ -30,7 +30,7 @@ use Rattle.snapshot.specs.Text.{snapshotOf}
 use Rattle.snapshot.specs.Load.{Loading, badLine, loaded, loadOf}
 use Rattle.snapshot.specs.Shape.{Shaped}
 use Rattle.snapshot.proofs.RoundTrip.{loaded-written, accepted-iff}
-use Rattle.demands.specs.Box.{Owner, ValidKey, Raw, grouped, spread, viewIn}
+use Rattle.demands.specs.Box.{Owner, ValidKey, Raw, grouped, spread, faultIn, viewIn}
 use Rattle.demands.specs.Setting.{box}
 use Rattle.demands.proofs.Laws.{key-is, laws}
 
@@ -45,22 +45,22 @@ equal j k = (λ e. e, λ e. e)
 
 -- a store call presents a key with acceptable content: the bytes are that key, nine with a selector of 0 or 1, and the content is acceptable
 pub admitted-iff : (o : Owner) (raw : Raw) (content k : List ℕ)
-    → Admitted box o raw content k ↔ ((raw .bytes ≡ k) × (ValidKey k × (acceptable content ≡ true)))
+    → Admitted box o raw content k ↔ ((raw .bytes ≡ k) × (ValidKey k × ((payload : Payload) × (contentOf content ≡ given payload))))
 admitted-iff o raw content k = (to, from)
   where
-    passed : (t : Bool) → cond {A = Option Said} t none (some (only 9)) ≡ none → t ≡ true
-    passed true e = refl
-    passed false e = let z : _≡_ {A = ℕ} 0 1 = cc in absurd (omega arith)
+    passed : (x : Outcome Payload) → contentOf content ≡ x → faultIn x ≡ none → (payload : Payload) × (contentOf content ≡ given payload)
+    passed (given payload) e f = (payload, e)
+    passed (refusal says) e f = let z : _≡_ {A = ℕ} 0 1 = cc in absurd (omega arith)
 
-    to : Admitted box o raw content k → (raw .bytes ≡ k) × (ValidKey k × (acceptable content ≡ true))
-    to a = let is = key-is raw k (a .presented) in (is .0, (is .1, passed (acceptable content) (a .acceptable)))
+    to : Admitted box o raw content k → (raw .bytes ≡ k) × (ValidKey k × ((payload : Payload) × (contentOf content ≡ given payload)))
+    to a = let is = key-is raw k (a .presented) in (is .0, (is .1, passed (contentOf content) refl (a .acceptable)))
 
-    from : (raw .bytes ≡ k) × (ValidKey k × (acceptable content ≡ true)) → Admitted box o raw content k
+    from : (raw .bytes ≡ k) × (ValidKey k × ((payload : Payload) × (contentOf content ≡ given payload))) → Admitted box o raw content k
     from h =
         let valid = h .1 .0 in
         record {
           presented = ap keyOf (h .0) ∙ key-given k (valid .nine .size) (valid .selector);
-          acceptable = ap (λ (t : Bool). cond t none (some (only 9))) (h .1 .1);
+          acceptable = ap faultIn (h .1 .1 .1);
         }
 
 module _ (v : View box) where

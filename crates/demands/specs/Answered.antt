@@ -24,8 +24,8 @@ viewed index = grouped (view index)
 
 -- what an answer of `store` says, beside its index
 abbrev pub storeSays : List ℕ → Stored → Answer box
-storeSays key Stored.Kept = stored
-storeSays key Stored.Evicting = evicted key
+storeSays key (Stored.Kept payload) = stored
+storeSays key (Stored.Evicting payload) = evicted key
 storeSays key (Stored.Refused why) = refused (saysOf why)
 
 -- what an answer of `remove` or `reload` says, given the word for accepted

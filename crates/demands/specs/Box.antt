@@ -1,15 +1,15 @@
 -- The box in the terms of `runs`: its owners, keys and calls, and how it reads keys, content and saved texts, at a limit of 240 keys.
 use Prim.Native.Nat.{ℕ, _≤_}
 use mathlib.Core.Path.{_≡_}
-use mathlib.Core.Bool.{cond}
 use mathlib.Core.List.{List}
 use mathlib.Core.Option.{Option, none, some}
 use lib.ListN.{length}
-use Rattle.refusal.specs.Says.{Said, only, atLine}
+use Rattle.refusal.specs.Says.{Said, atLine}
 use Rattle.refusal.specs.Outcome.{Outcome, given, refusal}
 use Rattle.octets.specs.Bytes.{Bytes}
 use Rattle.content_key.specs.Key.{selectorOf, keyOf}
-use Rattle.rlp.specs.Content.{acceptable}
+use Rattle.rlp.specs.Content.{contentOf}
+use Rattle.rlp.specs.declared.Payload.{Payload}
 use Rattle.runs.specs.Setting.{ViewOf}
 use Rattle.key_index.specs.View.{View}
 use Rattle.key_index.specs.Keys.{NineBytes}
@@ -48,9 +48,13 @@ spread v = record { node = v .owner .node; cap = v .owner .cap; keys = v .keys }
 abbrev pub keyFrom : Raw → Outcome (List ℕ)
 keyFrom raw = keyOf (raw .bytes)
 
--- 9 against content that is not acceptable
+-- nothing against acceptable content; 16 or 9 against any other
+abbrev pub faultIn : Outcome Payload → Option Said
+faultIn (given payload) = none
+faultIn (refusal says) = some says
+
 abbrev pub faultOf : List ℕ → Option Said
-faultOf content = cond (acceptable content) none (some (only 9))
+faultOf content = faultIn (contentOf content)
 
 -- the view that a saved text gives, or 14 with its line
 abbrev pub viewIn : Loading → Outcome (ViewOf Owner (List ℕ))

@@ -1,18 +1,20 @@
--- Document 01's cases "on each side of the line" that are marked (P), as one list of values.
+-- Document 01's cases "on each side of the line" that are marked (P), as one list of values. Since document 02's request 3 content that ends
+-- early, as c1, gets 16, and acceptable content gives its payload's start and length.
 use Prim.Native.Nat.{ℕ}
 use mathlib.Core.List.{List, [], _∷_, _++_}
 use lib.ListN.{replicate}
 use Rattle.refusal.specs.Outcome.{Outcome, given, refused}
 use Rattle.octets.specs.Bytes.{leBytes}
 use Rattle.content_key.specs.Key.{contentIdOf}
-use Rattle.rlp.specs.Content.{contentOf}
+use Rattle.rlp.specs.Content.{place, contentOf}
+use Rattle.rlp.specs.declared.Payload.{Payload}
 use Rattle.message.specs.Values.{Message, findNode, foundNodes, findContent}
 use Rattle.message.specs.Decode.{decode}
 
--- an input, and what it comes to: bytes as a key and its id, bytes as content, bytes as a message
+-- an input, and what it comes to: bytes as a key and its id, bytes as content and its payload's place, bytes as a message
 pub data Example : Type 0 where
   id : List ℕ → Outcome (List ℕ) → Example
-  content : List ℕ → Outcome (List ℕ) → Example
+  content : List ℕ → Outcome Payload → Example
   message : List ℕ → Outcome Message → Example
 
 -- the example with what its input comes to, in place of what is expected
@@ -28,9 +30,9 @@ body number = 0 ∷ leBytes 8 number
 abbrev pub receipts : ℕ → List ℕ
 receipts number = 1 ∷ leBytes 8 number
 
--- content that is accepted
-abbrev pub accepted : List ℕ → Example
-accepted bytes = content bytes (given bytes)
+-- content that is accepted, with the start and the length of its payload
+abbrev pub accepted : List ℕ → ℕ → ℕ → Example
+accepted bytes start len = content bytes (given (place start len))
 
 unfoldable pub examples : List Example
 examples =
@@ -43,13 +45,14 @@ examples =
     -- receipts of the largest number: eight ff, 23 zeros, 01
     ∷ id (receipts 18_446_744_073_709_551_615) (given (replicate 8 0xff ++ replicate 23 0 ++ (1 ∷ [])))
     -- content c0: accepted
-    ∷ accepted (0xc0 ∷ [])
-    -- c1, f800 and f837 with 55 bytes after it: 9
-    ∷ content (0xc1 ∷ []) (refused 9)
+    ∷ accepted (0xc0 ∷ []) 1 0
+    -- c1: 16
+    ∷ content (0xc1 ∷ []) (refused 16)
+    -- f800 and f837 with 55 bytes after it: 9
     ∷ content (0xf8 ∷ 0 ∷ []) (refused 9)
     ∷ content (0xf8 ∷ 0x37 ∷ replicate 55 0) (refused 9)
     -- f838 with 56 bytes: accepted
-    ∷ accepted (0xf8 ∷ 0x38 ∷ replicate 56 0)
+    ∷ accepted (0xf8 ∷ 0x38 ∷ replicate 56 0) 2 56
     -- 05 04000000 and a good key: accepted
     ∷ message (5 ∷ 4 ∷ 0 ∷ 0 ∷ 0 ∷ receipts 12_345_678) (given (findContent (receipts 12_345_678)))
     -- with 05000000: 4

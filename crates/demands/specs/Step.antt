@@ -1,4 +1,5 @@
--- One call of the box: storing, removing and reloading at a limit of 240 keys, on views. A refused call leaves the view as it was.
+-- One call of the box: storing, removing and reloading at a limit of 240 keys, on views. A refused call leaves the view as it was. Where the
+-- payload of stored content stands is no part of demand 3.
 use mathlib.Core.Bool.{cond}
 use Rattle.refusal.specs.Says.{only, atLine}
 use Rattle.runs.specs.Views.{View, Answer, store, remove, reload, refused, stored, evicted, removed, reloaded}
@@ -12,8 +13,8 @@ use Rattle.demands.specs.Setting.{box}
 
 abbrev pub afterStore : View box → Storing → View box × Answer box
 afterStore v (Storing.refused says) = (v, refused says)
-afterStore v (Storing.stored w) = (grouped w, stored)
-afterStore v (Storing.evicted key w) = (grouped w, evicted key)
+afterStore v (Storing.stored payload w) = (grouped w, stored)
+afterStore v (Storing.evicted payload key w) = (grouped w, evicted key)
 
 abbrev pub afterRemove : View box → Removing → View box × Answer box
 afterRemove v (Removing.refused says) = (v, refused says)

@@ -7,6 +7,7 @@ use key_store::Stored;
 use libc::STDOUT_FILENO;
 use refusal::Checked;
 use refusal::Wrote;
+use rlp::Payload;
 
 fn main() {
     let ones = [255u8; 32];
@@ -72,8 +73,15 @@ fn show(name: &[u8], index: KeyIndex) {
     let at = answer::end(&mut out, named);
     let asked = radius_line(index, &mut out, at);
     let held = holds_line(index, &mut out, asked);
-    let stored = store_line(index, &mut out, held);
-    let removed = remove_line(index, &mut out, stored);
+    let stored = store_line(index, b"  store body 0: ", b"\xc0", &mut out, held);
+    let cut = store_line(
+        index,
+        b"  store body 0, content cut off: ",
+        b"\xc1",
+        &mut out,
+        stored,
+    );
+    let removed = remove_line(index, &mut out, cut);
     let saved = save_line(index, &mut out, removed);
     let last = reload_line(index, &mut out, saved);
     io::write_all(STDOUT_FILENO, words::front(&out, last));
@@ -110,18 +118,25 @@ fn holds_line(index: KeyIndex, out: &mut [u8], from: usize) -> usize {
     }
 }
 
-fn store_line(index: KeyIndex, out: &mut [u8], from: usize) -> usize {
-    let at = answer::text(out, from, b"  store body 0: ");
+fn store_line(index: KeyIndex, name: &[u8], content: &[u8], out: &mut [u8], from: usize) -> usize {
+    let at = answer::text(out, from, name);
     let bytes = key(0, 0);
-    let done = key_store::store(index, &bytes, b"\xc0");
+    let done = key_store::store(index, &bytes, content);
     let next = done.index;
     let how = done.stored;
     let said = kept_word(index, next, out, at);
     match how {
-        Stored::Kept => answer::text(out, said, b"stored\n"),
-        Stored::Evicting => answer::text(out, said, b"stored, one evicted\n"),
+        Stored::Kept(payload) => stored_line(b"stored ", payload, out, said),
+        Stored::Evicting(payload) => stored_line(b"stored, one evicted, ", payload, out, said),
         Stored::Refused(why) => number_line(refusal::number(why), out, said),
     }
+}
+
+// A stored key's word, and where the payload of its content stands.
+fn stored_line(word: &[u8], payload: Payload, out: &mut [u8], from: usize) -> usize {
+    let at = answer::text(out, from, word);
+    let last = answer::decimals(out, at, payload.start, payload.len);
+    answer::end(out, last)
 }
 
 fn remove_line(index: KeyIndex, out: &mut [u8], from: usize) -> usize {

@@ -1,20 +1,21 @@
 -- The ways out of `store`, as cases of its definition, and an answer carried from one definition to another. Assumes nothing.
 use Prim.Native.Nat.{ℕ}
-use mathlib.Core.Path.{_≡_, refl, ap, _∙_}
-use mathlib.Core.Bool.{Bool, true, false, cond}
+use mathlib.Core.Path.{_≡_, ap, _∙_}
+use mathlib.Core.Bool.{true, false}
 use mathlib.Core.List.{List}
 use lib.Dec.{leb}
 use Rattle.refusal.specs.Says.{Said, only}
 use Rattle.refusal.specs.Outcome.{Outcome}
 use Rattle.octets.specs.Bytes.{be}
 use Rattle.content_key.specs.Key.{keyOf}
-use Rattle.rlp.specs.Content.{acceptable, contentOf}
+use Rattle.rlp.specs.Content.{contentOf}
+use Rattle.rlp.specs.declared.Payload.{Payload}
 use Rattle.key_index.specs.View.{View}
 use Rattle.key_index.specs.Good.{awayFrom, good, radiusOf}
 use Rattle.key_index.specs.Calls.{isHeld}
 use Rattle.key_index.specs.declared.KeyIndex.{KeyIndex}
-use Rattle.key_store.specs.Store.{Storing, refused, putOf, admitOf, keyStoreOf, storeOf}
-use Rattle.key_store.specs.Answer.{givenBy, meaningOf, evictedOr0}
+use Rattle.key_store.specs.Store.{Storing, refused, putOf, admitOf, contentStoreOf, keyStoreOf, storeOf}
+use Rattle.key_store.specs.Answer.{Given, givenBy, meaningOf, evictedOr0}
 use Rattle.key_store.specs.declared.StoreAnswer.{StoreAnswer}
 
 -- what an answer says of an outcome, it says of any way to write the outcome
@@ -22,29 +23,24 @@ pub answer-as : (index : KeyIndex) (r : StoreAnswer) (a s : Storing) → (meanin
     → (meaningOf r ≡ givenBy index s) × (r .evicted ≡ evictedOr0 s)
 answer-as index r a s h e = (h .0 ∙ ap (givenBy index) e, h .1 ∙ ap evictedOr0 e)
 
+-- an accepted answer that holds the payload's place that is due
+pub handed : (f : Payload → Given) (payload due : Payload) {g : Given} → f due ≡ g → payload ≡ due → f payload ≡ g
+handed f payload due e same = ap f same ∙ e
+
 -- a refusal with the number that is due
 pub said : (n m : ℕ) {s : Storing} → refused (only m) ≡ s → n ≡ m → refused (only n) ≡ s
 said n m e k = ap (λ (i : ℕ). refused (only i)) k ∙ e
 
--- what comes after the content was examined
-abbrev after : Storing → Outcome (List ℕ) → Storing
-after s (Outcome.given content) = s
-after s (Outcome.refusal says) = refused says
-
-after-cond : (s : Storing) (content : List ℕ) (t : Bool) → after s (cond t (Outcome.given content) (Outcome.refusal (only 9))) ≡ cond t s (refused (only 9))
-after-cond s content true = refl
-after-cond s content false = refl
-
-module _ (limit : ℕ) (v : View) (key : List ℕ) where
-  pub admit-held : isHeld key v ≡ true → refused (only 11) ≡ admitOf limit v key
+module _ (limit : ℕ) (v : View) (key : List ℕ) (payload : Payload) where
+  pub admit-held : isHeld key v ≡ true → refused (only 11) ≡ admitOf limit v key payload
   unfolding admitOf
   admit-held h = rw h
 
-  pub admit-far : isHeld key v ≡ false → leb (awayFrom (v .node) key) (be (radiusOf limit v)) ≡ false → refused (only 10) ≡ admitOf limit v key
+  pub admit-far : isHeld key v ≡ false → leb (awayFrom (v .node) key) (be (radiusOf limit v)) ≡ false → refused (only 10) ≡ admitOf limit v key payload
   unfolding admitOf
   admit-far h w = rw (h, w)
 
-  pub admit-put : isHeld key v ≡ false → leb (awayFrom (v .node) key) (be (radiusOf limit v)) ≡ true → putOf limit v key ≡ admitOf limit v key
+  pub admit-put : isHeld key v ≡ false → leb (awayFrom (v .node) key) (be (radiusOf limit v)) ≡ true → putOf limit v key payload ≡ admitOf limit v key payload
   unfolding admitOf
   admit-put h w = rw (h, w)
 
@@ -62,15 +58,16 @@ module _ (limit : ℕ) (v : View) (bytes content : List ℕ) where
   store-key says g k = store-read (Outcome.refusal says) g k
 
   -- a key, after its content was examined
-  store-after : (key : List ℕ) (o : Outcome (List ℕ)) → good limit v ≡ true → Outcome.given key ≡ keyOf bytes → o ≡ contentOf content
-      → after (admitOf limit v key) o ≡ storeOf limit v bytes content
-  store-after key o g k e =
-      ap (after (admitOf limit v key)) e ∙ after-cond (admitOf limit v key) content (acceptable content) ∙ store-read (Outcome.given key) g k
+  store-after : (key : List ℕ) (o : Outcome Payload) → good limit v ≡ true → Outcome.given key ≡ keyOf bytes → o ≡ contentOf content
+      → contentStoreOf limit v key o ≡ storeOf limit v bytes content
+  store-after key o g k e = ap (contentStoreOf limit v key) e ∙ store-read (Outcome.given key) g k
 
-  pub store-content : (key : List ℕ) (says : Said) → good limit v ≡ true → Outcome.given key ≡ keyOf bytes → Outcome.refusal says ≡ contentOf content
-      → refused says ≡ storeOf limit v bytes content
-  store-content key says g k e = store-after key (Outcome.refusal says) g k e
+  -- refused as its content is
+  pub store-content : (key : List ℕ) (says due : Said) → good limit v ≡ true → Outcome.given key ≡ keyOf bytes → Outcome.refusal due ≡ contentOf content
+      → says ≡ due → refused says ≡ storeOf limit v bytes content
+  store-content key says due g k e same = ap refused same ∙ store-after key (Outcome.refusal due) g k e
 
-  pub store-admit : (key read : List ℕ) → good limit v ≡ true → Outcome.given key ≡ keyOf bytes → Outcome.given read ≡ contentOf content
-      → admitOf limit v key ≡ storeOf limit v bytes content
-  store-admit key read g k e = store-after key (Outcome.given read) g k e
+  -- or tested further, with the place of its payload
+  pub store-admit : (key : List ℕ) (payload due : Payload) → good limit v ≡ true → Outcome.given key ≡ keyOf bytes → Outcome.given due ≡ contentOf content
+      → payload ≡ due → admitOf limit v key payload ≡ storeOf limit v bytes content
+  store-admit key payload due g k e same = ap (admitOf limit v key) same ∙ store-after key (Outcome.given due) g k e

@@ -3,7 +3,7 @@
 use Prim.Native.Nat.{ℕ, _≤_, _<_}
 use native.Mathlib.Omega.{arith}
 use mathlib.Core.Path.{_≡_, refl, sym, ap, subst, _∙_}
-use mathlib.Core.Bool.{Bool, true, false, cond, true≢false}
+use mathlib.Core.Bool.{Bool, true, false, true≢false}
 use mathlib.Core.List.{List}
 use lib.Dec.{leb, ltb, eqb}
 use lib.ListN.{length}
@@ -14,7 +14,8 @@ use Rattle.octets.specs.Bytes.{Bytes, be}
 use Rattle.octets.proofs.Equal.{holds-member, member-holds}
 use Rattle.content_key.specs.Key.{selectorOf}
 use Rattle.content_key.proofs.Keys.{key-length, key-selector, key-given}
-use Rattle.rlp.specs.Content.{acceptable}
+use Rattle.rlp.specs.Content.{contentOf}
+use Rattle.rlp.specs.declared.Payload.{Payload}
 use Rattle.key_index.specs.View.{View}
 use Rattle.key_index.specs.Good.{awayFrom, good, radiusOf}
 use Rattle.key_index.specs.Calls.{isHeld}
@@ -26,24 +27,25 @@ use Rattle.key_store.proofs.Facts.{new-distance, reach-room, nearer-las
 use Rattle.key_store.proofs.Putting.{put-room, put-full}
 
 module _ (limit : ℕ) (v : View) (key content : List ℕ) (some : 0 < limit) (o : OfBytes v) (bytes : Bytes key) where
-  put-cases : Asked limit v key content → Fresh v key → awayFrom (v .node) key ≤ be (radiusOf limit v) → Stores limit v key content (putOf limit v key)
-  put-cases a f w = go (ltb (length (v .keys)) limit) refl
+  put-cases : (payload : Payload) → Asked limit v key content payload → Fresh v key → awayFrom (v .node) key ≤ be (radiusOf limit v)
+      → Stores limit v key content (putOf limit v key payload)
+  put-cases payload a f w = go (ltb (length (v .keys)) limit) refl
     where
-      go : (t : Bool) → ltb (length (v .keys)) limit ≡ t → Stores limit v key content (putOf limit v key)
+      go : (t : Bool) → ltb (length (v .keys)) limit ≡ t → Stores limit v key content (putOf limit v key payload)
       go true e =
           let h = ltb-true (length (v .keys)) limit e in
-          subst (Stores limit v key content) (sym (put-room limit v key h)) (room a f h (omega (arith, ap be (reach-room limit v h))))
+          subst (Stores limit v key content) (sym (put-room limit v key payload h)) (room a f h (omega (arith, ap be (reach-room limit v h))))
       go false e =
           let h = ltb-false (length (v .keys)) limit e in
           let few = good-facts limit v (a .kept) .few in
           let s = last-apart (v .keys) (omega arith) in
-          subst (Stores limit v key content) (sym (put-full limit v key h)) (full a f (omega arith) (s .0) (s .1) (nearer-last limit v key h some (f .apart) w))
+          subst (Stores limit v key content) (sym (put-full limit v key payload h)) (full a f (omega arith) (s .0) (s .1) (nearer-last limit v key h some (f .apart) w))
 
-  admit-cases : Asked limit v key content → Stores limit v key content (admitOf limit v key)
-  admit-cases a = go (isHeld key v) refl
+  admit-cases : (payload : Payload) → Asked limit v key content payload → Stores limit v key content (admitOf limit v key payload)
+  admit-cases payload a = go (isHeld key v) refl
     where
-      go : (t : Bool) → isHeld key v ≡ t → Stores limit v key content (admitOf limit v key)
-      go true h = subst (Stores limit v key content) (admit-held limit v key h) (held a (holds-member key (v .keys) h))
+      go : (t : Bool) → isHeld key v ≡ t → Stores limit v key content (admitOf limit v key payload)
+      go true h = subst (Stores limit v key content) (admit-held limit v key payload h) (held a (holds-member key (v .keys) h))
       go false h = near (leb (awayFrom (v .node) key) (be (radiusOf limit v))) refl
         where
           fresh : Fresh v key
@@ -52,25 +54,22 @@ module _ (limit : ℕ) (v : View) (key content : List ℕ) (some : 0 < limit) (o
             apart = new-distance v key o (record { size = a .size; bytes = bytes }) h;
           }
 
-          near : (t : Bool) → leb (awayFrom (v .node) key) (be (radiusOf limit v)) ≡ t → Stores limit v key content (admitOf limit v key)
-          near true w = subst (Stores limit v key content) (admit-put limit v key h w) (put-cases a fresh (leb-true (awayFrom (v .node) key) (be (radiusOf limit v)) w))
-          near false w = subst (Stores limit v key content) (admit-far limit v key h w) (beyond a fresh (leb-false (awayFrom (v .node) key) (be (radiusOf limit v)) w))
+          near : (t : Bool) → leb (awayFrom (v .node) key) (be (radiusOf limit v)) ≡ t → Stores limit v key content (admitOf limit v key payload)
+          near true w = subst (Stores limit v key content) (admit-put limit v key payload h w) (put-cases payload a fresh (leb-true (awayFrom (v .node) key) (be (radiusOf limit v)) w))
+          near false w = subst (Stores limit v key content) (admit-far limit v key payload h w) (beyond a fresh (leb-false (awayFrom (v .node) key) (be (radiusOf limit v)) w))
 
   key-cases : good limit v ≡ true → length key ≡ 9 → Stores limit v key content (storeOf limit v key content)
   key-cases g l = go (leb (selectorOf key) 1) refl
     where
-      read : selectorOf key ≤ 1 → (t : Bool) → acceptable content ≡ t → Stores limit v key content (storeOf limit v key content)
-      read s true e =
-          subst (Stores limit v key content)
-          (store-admit limit v key content key content g (sym (key-given key l s)) (sym (ap (λ (t : Bool). cond t (Outcome.given content) (Outcome.refusal (only 9))) e)))
-          (admit-cases (record { kept = g; size = l; selector = s; listed = e }))
-      read s false e =
-          subst (Stores limit v key content)
-          (store-content limit v key content key (only 9) g (sym (key-given key l s)) (sym (ap (λ (t : Bool). cond t (Outcome.given content) (Outcome.refusal (only 9))) e)))
-          (no-content g l s e)
+      read : selectorOf key ≤ 1 → (o : Outcome Payload) → contentOf content ≡ o → Stores limit v key content (storeOf limit v key content)
+      read s (Outcome.given payload) e =
+          subst (Stores limit v key content) (store-admit limit v key content key payload payload g (sym (key-given key l s)) (sym e) refl)
+          (admit-cases payload (record { kept = g; size = l; selector = s; listed = e }))
+      read s (Outcome.refusal says) e =
+          subst (Stores limit v key content) (store-content limit v key content key says says g (sym (key-given key l s)) (sym e) refl) (no-content g l s e)
 
       go : (t : Bool) → leb (selectorOf key) 1 ≡ t → Stores limit v key content (storeOf limit v key content)
-      go true e = read (leb-true (selectorOf key) 1 e) (acceptable content) refl
+      go true e = read (leb-true (selectorOf key) 1 e) (contentOf content) refl
       go false e =
           let s = leb-false (selectorOf key) 1 e in
           subst (Stores limit v key content) (store-key limit v key content (only 8) g (sym (key-selector key l s))) (no-selector g l s)

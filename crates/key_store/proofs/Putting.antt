@@ -10,6 +10,7 @@ use mathlib.Core.List.{List, [], _∷_, _++_}
 use lib.ListN.{length, take, drop}
 use borrow.Author.Tests.{lt-ltb, le-ltb}
 use Rattle.octets.specs.Bytes.{be}
+use Rattle.rlp.specs.declared.Payload.{Payload}
 use Rattle.nearest.specs.Sorted.{_among_, distances}
 use Rattle.nearest.specs.Insert.{insert, offer}
 use Rattle.nearest.proofs.Sorted.{distances-front}
@@ -28,12 +29,12 @@ use Rattle.key_index.specs.Keys.{NineBytes}
 use Rattle.key_store.specs.Cases.{OfBytes}
 use Rattle.key_store.proofs.Facts.{sorted-near, new-distance, nearer-last, full-count, full-last}
 
-module _ (limit : ℕ) (v : View) (key : List ℕ) where
-  pub put-room : length (v .keys) < limit → putOf limit v key ≡ stored (withKeys v (insert (awayFrom (v .node)) key (v .keys)))
+module _ (limit : ℕ) (v : View) (key : List ℕ) (payload : Payload) where
+  pub put-room : length (v .keys) < limit → putOf limit v key payload ≡ stored payload (withKeys v (insert (awayFrom (v .node)) key (v .keys)))
   unfolding putOf
   put-room h = rw (lt-ltb (length (v .keys)) limit h)
 
-  pub put-full : limit ≤ length (v .keys) → putOf limit v key ≡ evicted (lastOf (v .keys)) (withKeys v (offer (awayFrom (v .node)) limit key (v .keys)))
+  pub put-full : limit ≤ length (v .keys) → putOf limit v key payload ≡ evicted payload (lastOf (v .keys)) (withKeys v (offer (awayFrom (v .node)) limit key (v .keys)))
   unfolding putOf
   put-full h = rw (le-ltb (length (v .keys)) limit h)
 
@@ -55,15 +56,15 @@ pub same-place : (index : KeyIndex) (count from to p : ℕ) (key keys : List ℕ
 same-place index count from to p key keys e at = e ∙ ap (λ (k : ℕ). withBytes index count (keyAtPlace k to key keys)) at
 
 -- the index with the key at place p, behind the nearer keys, has the view that the definition gives
-module _ (index : KeyIndex) (key : List ℕ) (o : OfBytes (view index)) (nine : NineBytes key) (out : isHeld key (view index) ≡ false)
+module _ (index : KeyIndex) (key : List ℕ) (payload : Payload) (o : OfBytes (view index)) (nine : NineBytes key) (out : isHeld key (view index) ≡ false)
     (p : ℕ) (is : p ≡ nearer (index .node) (awayFrom (index .node) key) (chunks (index .count) (index .keys))) where
   pub room-answer : (limit : ℕ) → index .count < limit → 9 * limit ≤ length (index .keys)
-      → stored (view (withBytes index (index .count + 1) (keyAtPlace p (index .count) key (index .keys)))) ≡ putOf limit (view index) key
+      → stored payload (view (withBytes index (index .count + 1) (keyAtPlace p (index .count) key (index .keys)))) ≡ putOf limit (view index) key payload
   room-answer limit h long =
-      ap (λ (ks : List (List ℕ)). stored (withKeys (view index) ks))
+      ap (λ (ks : List (List ℕ)). stored payload (withKeys (view index) ks))
       (ap (λ (n : ℕ). chunks n (keyAtPlace p (index .count) key (index .keys))) (add-one (index .count))
       ∙ chunks-room (index .node) key (index .keys) (nine .size) (index .count) p (omega arith) is (new-distance (view index) key o nine out))
-      ∙ sym (put-room limit (view index) key (omega (arith, chunks-length (index .count) (index .keys))))
+      ∙ sym (put-room limit (view index) key payload (omega (arith, chunks-length (index .count) (index .keys))))
 
   -- a full index, and a key within its radius
   module _ (n : ℕ) (g : good (suc n) (view index) ≡ true) (h : suc n ≤ index .count) (long : 9 * suc n ≤ length (index .keys))
@@ -97,14 +98,14 @@ module _ (index : KeyIndex) (key : List ℕ) (o : OfBytes (view index)) (nine : 
         omega (arith, place, chunks-length n (index .keys))
 
     pub full-answer : (last : List ℕ) → last ≡ keyAt (index .keys) n
-        → evicted last (view (withBytes index (suc n) (keyAtPlace p n key (index .keys)))) ≡ putOf (suc n) (view index) key
+        → evicted payload last (view (withBytes index (suc n) (keyAtPlace p n key (index .keys)))) ≡ putOf (suc n) (view index) key payload
     full-answer last read =
         let ks = chunks (index .count) (index .keys) in
-        ap₂ (λ (k : List ℕ) (l : List (List ℕ)). evicted k (withKeys (view index) l))
+        ap₂ (λ (k : List ℕ) (l : List (List ℕ)). evicted payload k (withKeys (view index) l))
         (read ∙ full-last n (index .count) (index .node) (index .cap) (index .keys) g h long)
         (chunks-room (index .node) key (index .keys) (nine .size) n p long place
         (λ m. new (subst (λ (l : List (List ℕ)). awayFrom (index .node) key among distances (awayFrom (index .node)) l) (sym apart) (distances-front (awayFrom (index .node)) (chunks n (index .keys)) (lastOf ks ∷ []) m)))
         ∙ sym (offer-near (awayFrom (index .node)) key (suc n) ks (chunks n (index .keys)) (lastOf ks)
         (sorted-near (index .node) 0 ks (good-facts (suc n) (view index) g .each .sorted))
         (chunks-length (index .count) (index .keys) ∙ full) apart new before))
-        ∙ sym (put-full (suc n) (view index) key (omega (arith, chunks-length (index .count) (index .keys))))
+        ∙ sym (put-full (suc n) (view index) key payload (omega (arith, chunks-length (index .count) (index .keys))))

@@ -1,9 +1,10 @@
 -- What an answer of `store` stands for: a refused call hands back the very index, equal in every byte; an accepted one an index with
--- the view that the definition gives.
+-- the view that the definition gives, and where the payload stands.
 use Prim.Native.Nat.{ℕ}
 use mathlib.Core.List.{List}
 use lib.ListN.{replicate}
 use Rattle.refusal.specs.Says.{Said, saysOf}
+use Rattle.rlp.specs.declared.Payload.{Payload}
 use Rattle.key_index.specs.View.{View, view}
 use Rattle.key_index.specs.declared.KeyIndex.{KeyIndex}
 use Rattle.key_store.specs.Store.{Storing, refused, stored, evicted, storeOf}
@@ -14,17 +15,17 @@ use Rattle.key_store.specs.declared.StoreAnswer.{StoreAnswer}
 -- an outcome with the index that a refused call hands back
 pub data Given : Type 0 where
   back : Said → KeyIndex → Given
-  now : View → Given
-  without : List ℕ → View → Given
+  now : Payload → View → Given
+  without : Payload → List ℕ → View → Given
 
 abbrev pub givenBy : KeyIndex → Storing → Given
 givenBy index (refused says) = back says index
-givenBy index (stored v) = now v
-givenBy index (evicted key v) = without key v
+givenBy index (stored payload v) = now payload v
+givenBy index (evicted payload key v) = without payload key v
 
 abbrev pub answeredBy : StoreAnswer → Stored → Given
-answeredBy r Kept = now (view (r .index))
-answeredBy r Evicting = without (r .evicted) (view (r .index))
+answeredBy r (Kept payload) = now payload (view (r .index))
+answeredBy r (Evicting payload) = without payload (r .evicted) (view (r .index))
 answeredBy r (Refused why) = back (saysOf why) (r .index)
 
 -- what the answer stands for
@@ -38,5 +39,5 @@ storeFor limit index bytes content = givenBy index (storeOf limit (view index) b
 -- the evicted key beside the answer: zeros where none
 abbrev pub evictedOr0 : Storing → List ℕ
 evictedOr0 (refused says) = replicate 9 0
-evictedOr0 (stored v) = replicate 9 0
-evictedOr0 (evicted key v) = key
+evictedOr0 (stored payload v) = replicate 9 0
+evictedOr0 (evicted payload key v) = key

@@ -1,5 +1,5 @@
--- Storing a key with its content, on the view of an index, over the limit on its keys. The tests come in document 01's order: 0, 7, 8,
--- 9, 11, 10.
+-- Storing a key with its content, on the view of an index, over the limit on its keys. The tests come in the order of documents 01 and 02:
+-- 0, 7, 8, 16, 9, 11, 10.
 use Prim.Native.Nat.{ℕ}
 use mathlib.Core.Bool.{cond}
 use mathlib.Core.List.{List}
@@ -9,41 +9,54 @@ use Rattle.refusal.specs.Says.{Said, only}
 use Rattle.refusal.specs.Outcome.{Outcome}
 use Rattle.octets.specs.Bytes.{be}
 use Rattle.content_key.specs.Key.{keyOf}
-use Rattle.rlp.specs.Content.{acceptable}
+use Rattle.rlp.specs.Content.{contentOf}
+use Rattle.rlp.specs.declared.Payload.{Payload}
 use Rattle.nearest.specs.Insert.{insert, offer}
 use Rattle.key_index.specs.View.{View, withKeys}
 use Rattle.key_index.specs.Good.{awayFrom, good, lastOf, radiusOf}
 use Rattle.key_index.specs.Calls.{isHeld}
 
--- what a store call comes to: refused, stored, or stored with a key evicted ("kept" and "turned out" in document 01)
+-- what a store call comes to: refused, stored, or stored with a key evicted ("kept" and "turned out" in document 01); a stored one hands on
+-- where the payload stands in the content
 pub data Storing : Type 0 where
   refused : Said → Storing
-  stored : View → Storing
-  evicted : List ℕ → View → Storing
+  stored : Payload → View → Storing
+  evicted : Payload → List ℕ → View → Storing
 
 -- the view to go on with
 abbrev pub nextOf : View → Storing → View
 nextOf v (refused says) = v
-nextOf v (stored w) = w
-nextOf v (evicted key w) = w
+nextOf v (stored payload w) = w
+nextOf v (evicted payload key w) = w
+
+-- the payload's place that an accepted call hands on; a refused one carries none
+abbrev pub handedOn : Storing → Outcome Payload
+handedOn (refused says) = Outcome.refusal says
+handedOn (stored payload w) = Outcome.given payload
+handedOn (evicted payload key w) = Outcome.given payload
 
 -- the key goes to its place by distance; a full index loses its farthest key, which is named
-unfoldable pub putOf : ℕ → View → List ℕ → Storing
-putOf limit v key =
+unfoldable pub putOf : ℕ → View → List ℕ → Payload → Storing
+putOf limit v key payload =
     cond (ltb (length (v .keys)) limit)
-    (stored (withKeys v (insert (awayFrom (v .node)) key (v .keys))))
-    (evicted (lastOf (v .keys)) (withKeys v (offer (awayFrom (v .node)) limit key (v .keys))))
+    (stored payload (withKeys v (insert (awayFrom (v .node)) key (v .keys))))
+    (evicted payload (lastOf (v .keys)) (withKeys v (offer (awayFrom (v .node)) limit key (v .keys))))
 
 -- 11 where the key is held, 10 where its distance is over the announced radius
-unfoldable pub admitOf : ℕ → View → List ℕ → Storing
-admitOf limit v key =
+unfoldable pub admitOf : ℕ → View → List ℕ → Payload → Storing
+admitOf limit v key payload =
     cond (isHeld key v) (refused (only 11))
-    (cond (leb (awayFrom (v .node) key) (be (radiusOf limit v))) (putOf limit v key)
+    (cond (leb (awayFrom (v .node) key) (be (radiusOf limit v))) (putOf limit v key payload)
     (refused (only 10)))
 
--- 7 or 8 for what is no key, 9 for content that is not acceptable
+-- 16 or 9 for content that is not acceptable
+abbrev pub contentStoreOf : ℕ → View → List ℕ → Outcome Payload → Storing
+contentStoreOf limit v key (Outcome.given payload) = admitOf limit v key payload
+contentStoreOf limit v key (Outcome.refusal says) = refused says
+
+-- 7 or 8 for what is no key
 abbrev pub keyStoreOf : ℕ → View → List ℕ → Outcome (List ℕ) → Storing
-keyStoreOf limit v content (Outcome.given key) = cond (acceptable content) (admitOf limit v key) (refused (only 9))
+keyStoreOf limit v content (Outcome.given key) = contentStoreOf limit v key (contentOf content)
 keyStoreOf limit v content (Outcome.refusal says) = refused says
 
 -- any bytes as a key, with any bytes as its content

@@ -20,11 +20,14 @@ use key_index::Place;
 use key_index::WIDTH;
 use refusal::Checked;
 use refusal::Refusal;
+use rlp::Examined;
+use rlp::Payload;
 
+// An accepted call hands on where the payload stands in the content.
 pub enum Stored {
-    Kept,
+    Kept(Payload),
     // Stored in the place of the farthest key, which is named beside the answer.
-    Evicting,
+    Evicting(Payload),
     Refused(Refusal),
 }
 
@@ -48,19 +51,19 @@ pub fn store(index: KeyIndex, bytes: &[u8], content: &[u8]) -> StoreAnswer
     if let Checked::Refused(why) = checked {
         return refused(index, why);
     }
-    let passed = rlp::check(content);
-    if let Checked::Refused(why) = passed {
-        return refused(index, why);
-    }
     let nine = read.key;
-    admitted(index, nine)
+    let examined = rlp::check(content);
+    match examined {
+        Examined::Accepted(payload) => admitted(index, nine, payload),
+        Examined::Refused(why) => refused(index, why),
+    }
 }
 
 // A key with acceptable content: refused where it is held or too far, else stored.
-fn admitted(index: KeyIndex, key: [u8; 9]) -> StoreAnswer
+fn admitted(index: KeyIndex, key: [u8; 9], payload: Payload) -> StoreAnswer
     requires { ⌜ good 240 (view index) ≡ true ⌝ }
-    ensures { λ r. ⌜ meaningOf r ≡ givenBy index (admitOf 240 (view index) key) ⌝ }
-    ensures { λ r. ⌜ r .evicted ≡ evictedOr0 (admitOf 240 (view index) key) ⌝ }
+    ensures { λ r. ⌜ meaningOf r ≡ givenBy index (admitOf 240 (view index) key payload) ⌝ }
+    ensures { λ r. ⌜ r .evicted ≡ evictedOr0 (admitOf 240 (view index) key payload) ⌝ }
 {
     let place = key_index::find(&index.keys, index.count, key);
     if let Place::At(_) = place {
@@ -70,7 +73,7 @@ fn admitted(index: KeyIndex, key: [u8; 9]) -> StoreAnswer
     if !distance::at_most(far, reach(index)) {
         return refused(index, Refusal::BeyondRadius);
     }
-    put(index, key, far)
+    put(index, key, far, payload)
 }
 
 // The announced radius.
@@ -85,20 +88,20 @@ fn reach(index: KeyIndex) -> [u8; 32]
 }
 
 // A key that is not held and within the radius, at the distance `far`, is stored.
-fn put(index: KeyIndex, key: [u8; 9], far: [u8; 32]) -> StoreAnswer
+fn put(index: KeyIndex, key: [u8; 9], far: [u8; 32], payload: Payload) -> StoreAnswer
     requires { ⌜ good 240 (view index) ≡ true ⌝ }
     requires { ⌜ isHeld key (view index) ≡ false ⌝ }
     requires { ⌜ leb (awayFrom (index .node) key) (be (radiusOf 240 (view index))) ≡ true ⌝ }
     requires { ⌜ far ≡ xorOf (index .node) (keyId key) ⌝ }
-    ensures { λ r. ⌜ meaningOf r ≡ givenBy index (putOf 240 (view index) key) ⌝ }
-    ensures { λ r. ⌜ r .evicted ≡ evictedOr0 (putOf 240 (view index) key) ⌝ }
+    ensures { λ r. ⌜ meaningOf r ≡ givenBy index (putOf 240 (view index) key payload) ⌝ }
+    ensures { λ r. ⌜ r .evicted ≡ evictedOr0 (putOf 240 (view index) key payload) ⌝ }
 {
     let count = index.count;
     let at = nearer_keys(&index.keys, count, index.node, far);
     if count < LIMIT {
         let more = with_key(index, count + 1, at, count, key);
         return StoreAnswer {
-            stored: Stored::Kept,
+            stored: Stored::Kept(payload),
             evicted: [0u8; 9],
             index: more,
         };
@@ -106,7 +109,7 @@ fn put(index: KeyIndex, key: [u8; 9], far: [u8; 32]) -> StoreAnswer
     let last = key_index::key_at(&index.keys, LIMIT - 1);
     let full = with_key(index, LIMIT, at, LIMIT - 1, key);
     StoreAnswer {
-        stored: Stored::Evicting,
+        stored: Stored::Evicting(payload),
         evicted: last,
         index: full,
     }

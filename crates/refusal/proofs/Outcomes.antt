@@ -30,3 +30,7 @@ same-refusal e = ap (λ (k : Checked). refusal (said k)) e
 -- nothing is both accepted and refused
 pub accepted-not : {A : Type 0} (why : Refusal) → Accepted ≡ Refused why → A
 accepted-not why e = absurd (let z : _≡_ {A = ℕ} 0 1 = cc in omega arith)
+
+-- a value is no refusal
+pub given-not : {A B : Type 0} {a : A} {says : Said} → given a ≡ refusal says → B
+given-not e = absurd (let z : _≡_ {A = ℕ} 0 1 = cc in omega arith)

@@ -2,7 +2,7 @@
 -- nothing else.
 use Prim.Native.Nat.{ℕ}
 use Rattle.refusal.specs.declared.Refusal.{Refusal}
-use Rattle.refusal.specs.declared.Refusal.the-variants.{BadState, EmptyMessage, LongMessage, MessageType, Layout, TooManyItems, ItemRule, KeyLength, KeySelector, Content, BeyondRadius, AlreadyHeld, NotHeld, ShortBuffer, BadSnapshot, NotHex, OwnId, TableFull, ReplacementsFull, NoEntry}
+use Rattle.refusal.specs.declared.Refusal.the-variants.{BadState, EmptyMessage, LongMessage, MessageType, Layout, TooManyItems, ItemRule, KeyLength, KeySelector, Content, BeyondRadius, AlreadyHeld, NotHeld, ShortBuffer, BadSnapshot, NotHex, ContentEndsEarly, OwnId, TableFull, ReplacementsFull, NoEntry}
 
 pub data Said : Type 0 where
   only : (number : ℕ) → Said
@@ -25,6 +25,7 @@ saysOf NotHeld = only 12
 saysOf ShortBuffer = only 13
 saysOf (BadSnapshot line) = atLine 14 line
 saysOf NotHex = only 15
+saysOf ContentEndsEarly = only 16
 saysOf OwnId = only 20
 saysOf TableFull = only 21
 saysOf ReplacementsFull = only 22

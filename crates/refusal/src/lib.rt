@@ -2,7 +2,7 @@
 ghost use mathlib.Core.Path.{_≡_};
 ghost use Rattle.refusal.specs.Says.{numberOf};
 
-// Why a call is refused, in the order of the numbers: 0 to 15, 20 to 22, 29.
+// Why a call is refused, in the order of the numbers: 0 to 16, 20 to 22, 29.
 pub enum Refusal {
     // The index or the routing table handed in breaks its rules.
     BadState,
@@ -22,7 +22,7 @@ pub enum Refusal {
     KeyLength,
     // The key's selector is neither 0 nor 1.
     KeySelector,
-    // The content is not one RLP list that fills its bytes.
+    // The content is empty, or neither an RLP list that fills its bytes nor the beginning of one.
     Content,
     // The key's distance is over the announced radius.
     BeyondRadius,
@@ -36,6 +36,8 @@ pub enum Refusal {
     BadSnapshot { line: usize },
     // An odd number of digits, or a character that is no lower-case hexadecimal digit.
     NotHex,
+    // The content is the beginning of an RLP list and ends before the list does.
+    ContentEndsEarly,
     // The id is the routing table's own.
     OwnId,
     // A newcomer whose log distance has room, but all entries are used.
@@ -79,6 +81,7 @@ pub fn number(why: Refusal) -> u8
         Refusal::ShortBuffer => 13,
         Refusal::BadSnapshot { line: _ } => 14,
         Refusal::NotHex => 15,
+        Refusal::ContentEndsEarly => 16,
         Refusal::OwnId => 20,
         Refusal::TableFull => 21,
         Refusal::ReplacementsFull => 22,

@@ -1,83 +1,100 @@
--- The cases of `longFills` and `acceptable`, each by the tests that lead to it; and one turn of the loop that reads the length.
--- Assumes nothing.
-use Prim.Native.Nat.{ℕ, suc, _+_, _-_, _*_, _^_, _≤_, _<_}
+-- The cases of `longHeader`, `headerIn`, `filled` and `contentOf`, each by the tests that lead to it; and one turn of the loop that reads the
+-- length. Assumes nothing.
+use Prim.Native.Nat.{ℕ, _+_, _-_, _*_, _^_, _≤_, _<_}
 use native.Mathlib.Nat.{pow-suc, pow-le-pow-right}
 use native.Mathlib.Numerals.{add-one}
 use native.Mathlib.Omega.{arith}
-use mathlib.Core.Bool.{Bool, true, false, _&&_, and-eq-true-iff}
 use mathlib.Core.List.{List, [], _∷_}
-use mathlib.Core.Path.{_≡_, refl, sym, ap, _∙_}
+use mathlib.Core.Path.{_≡_, refl, sym, ap, ap₂, _∙_}
 use lib.Arith.{digits-lt}
-use lib.Dec.{eqb, leb, ltb, lit<}
-use lib.ListN.{length, getD, take, drop, length-drop}
+use lib.Dec.{lit<}
+use lib.ListN.{length, getD, take, drop}
 use lib.Seq.{take-suc}
-use borrow.Author.Tests.{lt-ltb, le-ltb, le-leb, lt-leb, leb-true, ltb-true, eqb-true, eq-eqb, ne-eqb}
+use borrow.Author.Tests.{lt-ltb, le-ltb, le-leb, lt-leb, eq-eqb, ne-eqb}
+use Rattle.refusal.specs.Outcome.{Outcome, given, refused}
 use Rattle.octets.specs.Bytes.{be}
 use Rattle.octets.proofs.Numbers.{be-append}
-use Rattle.rlp.specs.Content.{longFills, acceptable}
+use Rattle.rlp.specs.Content.{place, longHeader, headerIn, filled, contentBy, contentOf}
+use Rattle.rlp.specs.declared.Payload.{Payload}
+use Rattle.rlp.specs.declared.Header.{Header}
+use Rattle.rlp.specs.declared.Header.the-variants.{Wrong, Cut, Whole}
 
--- an answer that is true where two numbers are equal, and false where not, is their test
-pub test-is : (x y : ℕ) (b : Bool) → (b ≡ true → x ≡ y) → (b ≡ false → x ≡ y → ⊥) → b ≡ eqb x y
-test-is x y true same other = sym (eq-eqb x y (same refl))
-test-is x y false same other = sym (ne-eqb x y (other refl))
+-- an answer that is the header, the place or the number that is due
+pub header-as : (h due : Header) {x : Header} → x ≡ due → h ≡ due → h ≡ x
+header-as h due e f = f ∙ sym e
 
--- fewer bytes than the length bytes alone are refused
-pub long-cut : (k : ℕ) (rest : List ℕ) → length rest < k → longFills k rest ≡ false
-long-cut k rest h = rw (lt-leb k (length rest) h)
+pub place-as : (start len a b : ℕ) {x : Header} → x ≡ Whole (place a b) → start ≡ a → len ≡ b → Whole (place start len) ≡ x
+place-as start len a b e f g = ap₂ (λ (i j : ℕ). Whole (place i j)) f g ∙ sym e
 
-module _ (k : ℕ) (rest : List ℕ) (all : k ≤ length rest) where
-  -- a first length byte of zero is refused
-  pub long-zero : getD rest 0 0 ≡ 0 → longFills k rest ≡ false
-  long-zero z = rw (le-leb k (length rest) all, le-ltb 0 (getD rest 0 0) (omega arith))
+pub said-as : (n due : ℕ) {o : Outcome Payload} → o ≡ refused due → n ≡ due → refused n ≡ o
+said-as n due e f = ap (λ (i : ℕ). refused i) f ∙ sym e
 
-  -- a length of at most 55 is refused: it has the short form
-  pub long-small : 0 < getD rest 0 0 → be (take k rest) ≤ 55 → longFills k rest ≡ false
-  long-small z s = rw (le-leb k (length rest) all, lt-ltb 0 (getD rest 0 0) z, le-ltb 55 (be (take k rest)) s)
+-- none of the length bytes is there
+pub long-none : (k : ℕ) (rest : List ℕ) → length rest ≡ 0 → longHeader k rest ≡ Cut
+unfolding longHeader
+long-none k rest h = rw (eq-eqb (length rest) 0 h)
 
-  -- a longer one is compared with the number of bytes after it
-  pub long-compared : 0 < getD rest 0 0 → 55 < be (take k rest) → longFills k rest ≡ eqb (be (take k rest)) (length rest - k)
-  long-compared z l =
-      rw (le-leb k (length rest) all, lt-ltb 0 (getD rest 0 0) z, lt-ltb 55 (be (take k rest)) l, length-drop k rest)
+module _ (k : ℕ) (rest : List ℕ) (some : 0 < length rest) where
+  -- the first is zero
+  pub long-zero : getD rest 0 0 ≡ 0 → longHeader k rest ≡ Wrong
+  unfolding longHeader
+  long-zero z = rw (ne-eqb (length rest) 0 (λ e. omega arith), eq-eqb (getD rest 0 0) 0 z)
 
--- what holds of a long form that is not refused
-pub long-holds : (k : ℕ) (rest : List ℕ) → longFills k rest ≡ true
-    → (k ≤ length rest) × (0 < getD rest 0 0) × (55 < be (take k rest)) × (be (take k rest) ≡ length (drop k rest))
-long-holds k rest e =
-    let last = and-eq-true-iff (leb k (length rest) && ltb 0 (getD rest 0 0) && ltb 55 (be (take k rest))) _ .0 e in
-    let third = and-eq-true-iff (leb k (length rest) && ltb 0 (getD rest 0 0)) _ .0 (last .0) in
-    let second = and-eq-true-iff (leb k (length rest)) _ .0 (third .0) in (
-      leb-true k (length rest) (second .0),
-      ltb-true 0 (getD rest 0 0) (second .1),
-      ltb-true 55 (be (take k rest)) (third .1),
-      eqb-true (be (take k rest)) (length (drop k rest)) (last .1),
-    )
+  -- the first is not zero, and some are missing
+  pub long-missing : 0 < getD rest 0 0 → length rest < k → longHeader k rest ≡ Cut
+  unfolding longHeader
+  long-missing z h = rw (ne-eqb (length rest) 0 (λ e. omega arith), ne-eqb (getD rest 0 0) 0 (λ e. omega arith), lt-ltb (length rest) k h)
 
--- no bytes are refused
-pub first-none : (s : List ℕ) → length s ≡ 0 → acceptable s ≡ false
-unfolding acceptable
+  -- all are there, and the length has the short form
+  pub long-small : 0 < getD rest 0 0 → k ≤ length rest → be (take k rest) ≤ 55 → longHeader k rest ≡ Wrong
+  unfolding longHeader
+  long-small z h s =
+      rw (ne-eqb (length rest) 0 (λ e. omega arith), ne-eqb (getD rest 0 0) 0 (λ e. omega arith), le-ltb (length rest) k h, le-leb (be (take k rest)) 55 s)
+
+  -- the header is whole
+  pub long-whole : 0 < getD rest 0 0 → k ≤ length rest → 55 < be (take k rest) → longHeader k rest ≡ Whole (place (1 + k) (be (take k rest)))
+  unfolding longHeader
+  long-whole z h l =
+      rw (ne-eqb (length rest) 0 (λ e. omega arith), ne-eqb (getD rest 0 0) 0 (λ e. omega arith), le-ltb (length rest) k h, lt-leb (be (take k rest)) 55 l)
+
+-- no bytes
+pub first-none : (s : List ℕ) → length s ≡ 0 → headerIn s ≡ Wrong
+unfolding headerIn
 first-none [] h = refl
 first-none (b ∷ rest) h = absurd (omega arith)
 
--- a first byte below c0 is refused
-pub first-low : (s : List ℕ) → getD s 0 0 < 192 → acceptable s ≡ false
-unfolding acceptable
+-- a first byte below c0
+pub first-low : (s : List ℕ) → getD s 0 0 < 192 → headerIn s ≡ Wrong
+unfolding headerIn
 first-low [] h = refl
 first-low (b ∷ rest) h = rw (lt-ltb b 192 h)
 
--- a first byte c0 to f7 is the short form
-pub first-short : (s : List ℕ) → 192 ≤ getD s 0 0 → getD s 0 0 ≤ 247
-    → acceptable s ≡ eqb (length s - 1) (getD s 0 0 - 192)
-unfolding acceptable
+-- a first byte c0 to f7
+pub first-short : (s : List ℕ) → 192 ≤ getD s 0 0 → getD s 0 0 ≤ 247 → headerIn s ≡ Whole (place 1 (getD s 0 0 - 192))
+unfolding headerIn
 first-short [] h l = absurd (omega arith)
-first-short (b ∷ rest) h l =
-    let e : length rest ≡ suc (length rest) - 1 = omega arith in
-    rw (le-ltb b 192 h, le-leb b 247 l) (ap (λ (n : ℕ). eqb n (b - 192)) e)
+first-short (b ∷ rest) h l = rw (le-ltb b 192 h, le-leb b 247 l)
 
--- a first byte f8 to ff is the long form
-pub first-long : (s : List ℕ) → 247 < getD s 0 0 → acceptable s ≡ longFills (getD s 0 0 - 247) (drop 1 s)
-unfolding acceptable
+-- a first byte f8 to ff
+pub first-long : (s : List ℕ) → 247 < getD s 0 0 → headerIn s ≡ longHeader (getD s 0 0 - 247) (drop 1 s)
+unfolding headerIn
 first-long [] h = absurd (omega arith)
 first-long (b ∷ rest) h = rw (le-ltb b 192 (omega arith), lt-leb b 247 h)
+
+-- the payload runs past the end, bytes follow it, it fills them
+pub filled-early : (p : Payload) (n : ℕ) → n < p .len → filled p n ≡ refused 16
+filled-early p n h = rw (lt-ltb n (p .len) h)
+
+pub filled-over : (p : Payload) (n : ℕ) → p .len < n → filled p n ≡ refused 9
+filled-over p n h = rw (le-ltb n (p .len) (omega arith), lt-ltb (p .len) n h)
+
+pub filled-whole : (p : Payload) (n : ℕ) → n ≡ p .len → filled p n ≡ given p
+filled-whole p n h = rw (le-ltb n (p .len) (omega arith), le-ltb (p .len) n (omega arith))
+
+-- content by its header
+pub content-by : (s : List ℕ) (h : Header) → headerIn s ≡ h → contentOf s ≡ contentBy (length s) h
+unfolding contentOf
+content-by s h e = ap (contentBy (length s)) e
 
 -- a byte more multiplies the number by 256
 pub be-more : (s : List ℕ) (i : ℕ) → i < length s → be (take i s) * 256 + getD s i 0 ≡ be (take (i + 1) s)

@@ -1,43 +1,51 @@
--- Acceptable content, by document 01: one RLP list that fills all its bytes, with the shortest length form. Only this outer layer is
--- examined.
-use Prim.Native.Nat.{ℕ, zero, suc, _+_, _-_, _/_, _%_, _^_, _<_}
-use mathlib.Core.Bool.{Bool, false, cond, _&&_}
-use mathlib.Core.Path.{_≡_}
-use mathlib.Core.List.{List, [], _∷_, _++_}
+-- Acceptable content, by documents 01 and 02: one RLP list that fills all its bytes, with the shortest length form; where its payload
+-- stands; and which content ends early. Only this outer layer is examined.
+use Prim.Native.Nat.{ℕ, _+_, _-_}
+use mathlib.Core.Bool.{cond}
+use mathlib.Core.List.{List, [], _∷_}
 use lib.Dec.{eqb, leb, ltb}
-use lib.ListN.{length, getD, take, drop}
+use lib.ListN.{length, getD, take}
 use Rattle.refusal.specs.Outcome.{Outcome, given, refused}
 use Rattle.octets.specs.Bytes.{be}
+use Rattle.rlp.specs.declared.Payload.{Payload}
+use Rattle.rlp.specs.declared.Header.{Header}
+use Rattle.rlp.specs.declared.Header.the-variants.{Wrong, Cut, Whole}
 
--- k length bytes, heaviest first, the first one not zero, give a length over 55 that is the number of bytes after them
-abbrev pub longFills : ℕ → List ℕ → Bool
-longFills k rest =
-    leb k (length rest)
-    && ltb 0 (getD rest 0 0)
-    && ltb 55 (be (take k rest))
-    && eqb (be (take k rest)) (length (drop k rest))
+-- a payload of `len` bytes that starts at index `start`
+abbrev pub place : ℕ → ℕ → Payload
+place start len = record { start = start; len = len }
+
+-- What content begins with: `Wrong`, no header of a list in the shortest form; `Cut`, one that ends before it is whole; or `Whole`, with the
+-- place of its payload.
+
+-- after a first byte that asks for them come k length bytes, heaviest first: cut where none is there; wrong where the first is zero; cut where
+-- some are missing; wrong where the length is not over 55
+unfoldable pub longHeader : ℕ → List ℕ → Header
+longHeader k rest =
+    cond (eqb (length rest) 0) Cut
+    (cond (eqb (getD rest 0 0) 0) Wrong
+    (cond (ltb (length rest) k) Cut
+    (cond (leb (be (take k rest)) 55) Wrong
+    (Whole (place (1 + k) (be (take k rest)))))))
 
 -- a first byte c0 to f7 gives the payload's length less c0; f8 to ff is followed by 1 to 8 length bytes
-unfoldable pub acceptable : List ℕ → Bool
-acceptable [] = false
-acceptable (b ∷ rest) =
-    cond (ltb b 192) false
-    (cond (leb b 247) (eqb (length rest) (b - 192))
-    (longFills (b - 247) rest))
+unfoldable pub headerIn : List ℕ → Header
+headerIn [] = Wrong
+headerIn (b ∷ rest) =
+    cond (ltb b 192) Wrong
+    (cond (leb b 247) (Whole (place 1 (b - 192)))
+    (longHeader (b - 247) rest))
 
--- the content, or 9
-abbrev pub contentOf : List ℕ → Outcome (List ℕ)
-contentOf content = cond (acceptable content) (given content) (refused 9)
+-- a whole header and n bytes after it: 16 where the payload runs past the end, 9 where bytes follow it
+abbrev pub filled : Payload → ℕ → Outcome Payload
+filled p n = cond (ltb n (p .len)) (refused 16) (cond (ltb (p .len) n) (refused 9) (given p))
 
--- the bytes of n, heaviest first, with no leading zero: the fewest that hold it, where n is below 256 ^ most
-unfoldable pub fewest : ℕ → ℕ → List ℕ
-fewest zero n = []
-fewest (suc most) n = cond (eqb n 0) [] (fewest most (n / 256) ++ (n % 256 ∷ []))
+-- content of n bytes, by its header
+abbrev pub contentBy : ℕ → Header → Outcome Payload
+contentBy n Wrong = refused 9
+contentBy n Cut = refused 16
+contentBy n (Whole p) = filled p (n - p .start)
 
--- what RLP writes before a list's payload of n bytes, n below 2 ^ 64: the byte 192 + n for at most 55, else 247 + k and the k bytes of n
-unfoldable pub headerOf : ℕ → List ℕ
-headerOf n = cond (leb n 55) ((192 + n) ∷ []) ((247 + length (fewest 8 n)) ∷ fewest 8 n)
-
--- s is what RLP writes for a list: the header of the payload's length, and the payload
-abbrev pub Written : List ℕ → Type 0
-Written s = (payload : List ℕ) × (s ≡ headerOf (length payload) ++ payload) × (length payload < 2 ^ 64)
+-- the payload's place in acceptable content; 16 where the content ends early; else 9
+unfoldable pub contentOf : List ℕ → Outcome Payload
+contentOf s = contentBy (length s) (headerIn s)

@@ -25,7 +25,7 @@ module _ (S : Setting) where
     broken : {c : Call S} → ¬ Good S v → Refused v c (only 0)
     -- 7, 8: no key
     noKey : {raw : Raw} {content : Content} {r : Said} → keyIn (v .owner) raw ≡ refusal r → Refused v (store raw content) r
-    -- 9: content not acceptable
+    -- content not acceptable, with the number that is due
     unfit : {raw : Raw} {content : Content} {k : Key} {r : Said} → keyIn (v .owner) raw ≡ given k → fault (v .owner) k content ≡ some r
         → Refused v (store raw content) r
     -- 11: the key is held

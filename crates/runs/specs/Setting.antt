@@ -34,7 +34,7 @@ pub record Setting : Type 1 where
   pub Same : Owner → Key → Key → Type 0
   -- the key that bytes are, or the refusal 7 or 8
   pub keyIn : Owner → Raw → Outcome Key
-  -- the refusal that stands against a store call of this key, 9, or none where its content is acceptable
+  -- the refusal that stands against a store call of this key, or none where its content is acceptable
   pub fault : Owner → Key → Content → Option Said
   -- the view that a text is the saved form of, or the refusal 14
   pub textIn : Text → Outcome (ViewOf Owner Key)

@@ -64,8 +64,8 @@ refused-requires c κs = search needs
 returns : tie.Need-returns
 returns c =
     let a = c .before .before .before .before .before .before .before .args in
-    answer-as (a .t1) (c .refused .result) (refused (only _)) (admitOf 240 (view (a .t1)) (a .key)) (c .refused .ensures)
-    (said _ 11 (admit-held 240 (view (a .t1)) (a .key) (at-held _ _ _ (sym (c .before .before .before .find .ensures) ∙ c .before .enum-told .given .1))) (search needs))
+    answer-as (a .t1) (c .refused .result) (refused (only _)) (admitOf 240 (view (a .t1)) (a .key) (a .payload)) (c .refused .ensures)
+    (said _ 11 (admit-held 240 (view (a .t1)) (a .key) (a .payload) (at-held _ _ _ (sym (c .before .before .before .find .ensures) ∙ c .before .enum-told .given .1))) (search needs))
 
 enum-told-2 : tie.Need-enum-told-2
 enum-told-2 c = search needs
@@ -85,8 +85,8 @@ refused-requires-2 c κs = search needs
 returns-2 : tie.Need-returns-2
 returns-2 c =
     let a = c .before .before .before .before .before .before .before .before .before .before .before .before .args in
-    answer-as (a .t1) (c .refused2 .result) (refused (only 10)) (admitOf 240 (view (a .t1)) (a .key)) (c .refused2 .ensures)
-    (admit-far 240 (view (a .t1)) (a .key) (out (c .before .before .before .before .before .before)) (beyond (c .before)))
+    answer-as (a .t1) (c .refused2 .result) (refused (only 10)) (admitOf 240 (view (a .t1)) (a .key) (a .payload)) (c .refused2 .ensures)
+    (admit-far 240 (view (a .t1)) (a .key) (a .payload) (out (c .before .before .before .before .before .before)) (beyond (c .before)))
 
 put-requires : tie.Need-put-requires
 put-requires c κs =
@@ -95,8 +95,8 @@ put-requires c κs =
 returns-3 : tie.Need-returns-3
 returns-3 c =
     let a = c .before .before .before .before .before .before .before .before .before .before .before .before .args in
-    answer-as (a .t1) (c .put .result) (putOf 240 (view (a .t1)) (a .key)) (admitOf 240 (view (a .t1)) (a .key)) (c .put .ensures)
-    (admit-put 240 (view (a .t1)) (a .key) (out (c .before .before .before .before .before .before)) (within (c .before)))
+    answer-as (a .t1) (c .put .result) (putOf 240 (view (a .t1)) (a .key) (a .payload)) (admitOf 240 (view (a .t1)) (a .key) (a .payload)) (c .put .ensures)
+    (admit-put 240 (view (a .t1)) (a .key) (a .payload) (out (c .before .before .before .before .before .before)) (within (c .before)))
 
 pub admitted-spec : {M : Type 1} → statement M
 admitted-spec =

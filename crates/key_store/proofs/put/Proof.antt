@@ -10,6 +10,7 @@ use mir.Syntax.{w8}
 use borrow.Author.Tests.{leb-true}
 use Rattle.octets.specs.Bytes.{be}
 use Rattle.octets.proofs.Numbers.{bytes-all}
+use Rattle.rlp.specs.declared.Payload.{Payload}
 use Rattle.key_index.specs.View.{view, chunks}
 use Rattle.key_index.specs.Good.{awayFrom, radiusOf}
 use Rattle.key_index.specs.declared.KeyIndex.{KeyIndex}
@@ -20,6 +21,7 @@ use Rattle.key_store.specs.Move.{nearer}
 use Rattle.key_store.specs.Cases.{OfBytes}
 use Rattle.key_index.specs.Keys.{NineBytes}
 use Rattle.key_store.proofs.Nearer.{nearer-most}
+use Rattle.key_store.proofs.Answers.{handed}
 use Rattle.key_store.proofs.Putting.{same-place, room-answer, full-place, full-answer}
 use borrow.Author.Needs.{needs}
 use Rattle.key_store.proofs.put.Statement.{statement}
@@ -82,8 +84,11 @@ returns c =
     let a = s .args in
     let p = c .before .before .nearer-keys in
     let e =
-    room-answer (a .t1) (a .key) (of-bytes s) (nine s) (s .pre .1 .0) (p .result) (place s _ (p .ensures)) 240 (c .before .if1 .taken) (omega (arith, size s)) in
-    (ap (λ (i : KeyIndex). now (view i)) (c .with-key .ensures) ∙ ap (givenBy (a .t1)) e, ap evictedOr0 e)
+    room-answer (a .t1) (a .key) (a .payload) (of-bytes s) (nine s) (s .pre .1 .0) (p .result) (place s _ (p .ensures)) 240 (c .before .if1 .taken) (omega (arith, size s)) in (
+      handed (λ (q : Payload). now q (view (c .with-key .result))) _ (a .payload)
+          (ap (λ (i : KeyIndex). now (a .payload) (view i)) (c .with-key .ensures) ∙ ap (givenBy (a .t1)) e) (search needs),
+      ap evictedOr0 e,
+    )
 
 sub-key-at : tie.Need-sub-key-at
 sub-key-at c = search needs
@@ -101,7 +106,7 @@ with-key-requires-2 c κs =
     let p = c .before .before .before .before .before .nearer-keys in
     let left = c .before .before .before .before .if1 .left in
     let h =
-    full-place (a .t1) (a .key) (of-bytes s) (nine s) (s .pre .1 .0) (p .result) (place s _ (p .ensures)) 239 (s .pre .0) left (omega (arith, size s)) (within s) in
+    full-place (a .t1) (a .key) (a .payload) (of-bytes s) (nine s) (s .pre .1 .0) (p .result) (place s _ (p .ensures)) 239 (s .pre .0) left (omega (arith, size s)) (within s) in
     (omega arith, omega arith)
 
 returns-2 : tie.Need-returns-2
@@ -112,9 +117,13 @@ returns-2 c =
     let left = c .before .before .before .before .before .if1 .left in
     let last = c .before .key-at in
     let e =
-    full-answer (a .t1) (a .key) (of-bytes s) (nine s) (s .pre .1 .0) (p .result) (place s _ (p .ensures)) 239 (s .pre .0) left (omega (arith, size s)) (within s)
-    (last .result) (last .ensures) in
-    (ap (λ (i : KeyIndex). without (last .result) (view i)) (same-place (a .t1) _ _ _ (p .result) _ _ (c .with-key2 .ensures) (omega arith)) ∙ ap (givenBy (a .t1)) e, ap evictedOr0 e)
+    full-answer (a .t1) (a .key) (a .payload) (of-bytes s) (nine s) (s .pre .1 .0) (p .result) (place s _ (p .ensures)) 239 (s .pre .0) left (omega (arith, size s)) (within s)
+    (last .result) (last .ensures) in (
+      handed (λ (q : Payload). without q (last .result) (view (c .with-key2 .result))) _ (a .payload)
+          (ap (λ (i : KeyIndex). without (a .payload) (last .result) (view i)) (same-place (a .t1) _ _ _ (p .result) _ _ (c .with-key2 .ensures) (omega arith)) ∙ ap (givenBy (a .t1)) e)
+          (search needs),
+      ap evictedOr0 e,
+    )
 
 pub put-spec : {M : Type 1} → statement M
 put-spec =

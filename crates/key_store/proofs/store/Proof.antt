@@ -7,6 +7,7 @@ use Rattle.refusal.specs.Says.{only}
 use Rattle.refusal.specs.Outcome.{given}
 use Rattle.refusal.proofs.Outcomes.{was-given, was-refused}
 use Rattle.content_key.specs.Key.{keyOf}
+use Rattle.rlp.proofs.Answers.{was-accepted, was-not}
 use Rattle.key_index.specs.View.{view}
 use Rattle.key_index.specs.Good.{good}
 use Rattle.key_store.specs.Store.{refused, storeOf}
@@ -59,33 +60,33 @@ enum-told c = search needs
 check-requires : tie.Need-check-requires
 check-requires c κs = search needs
 
-enum-known-passed : tie.Need-enum-known-passed
-enum-known-passed c = search needs
+enum-known-examined : tie.Need-enum-known-examined
+enum-known-examined c = search needs
+
+admitted-requires : tie.Need-admitted-requires
+admitted-requires c κs = kept (c .before .before .before .before .before .before .before .before)
+
+enum-known-examined-2 : tie.Need-enum-known-examined-2
+enum-known-examined-2 c = search needs
 
 refused-requires-3 : tie.Need-refused-requires-3
 refused-requires-3 c κs = search needs
 
 returns-3 : tie.Need-returns-3
 returns-3 c =
-    let a = c .before .before .before .before .before .before .before .before .before .before .before .before .args in
+    let a = c .before .before .before .before .before .before .before .before .before .before .before .before .before .args in
     let v = view (a .index) in
-    answer-as (a .index) (c .refused3 .result) _ (storeOf 240 v (now (a .bytes)) (now (a .content))) (c .refused3 .ensures)
-    (store-content 240 v (now (a .bytes)) (now (a .content)) _ _ (kept (c .before .before .before .before .before .before .before .before)) (read (c .before .before .before .before .before))
-    (was-refused _ _ (c .before .before .before .before .check .ensures) (c .before .before .passed .given .1)))
-
-enum-told-2 : tie.Need-enum-told-2
-enum-told-2 c = search needs
-
-admitted-requires : tie.Need-admitted-requires
-admitted-requires c κs = kept (c .before .before .before .before .before .before .before)
+    answer-as (a .index) (c .admitted .result) _ (storeOf 240 v (now (a .bytes)) (now (a .content))) (c .admitted .ensures)
+    (store-admit 240 v (now (a .bytes)) (now (a .content)) _ _ _ (kept (c .before .before .before .before .before .before .before .before .before)) (read (c .before .before .before .before .before .before))
+    (was-accepted _ (c .before .before .before .before .check .ensures) (c .before .before .examined .given .1)) (search needs))
 
 returns-4 : tie.Need-returns-4
 returns-4 c =
-    let a = c .before .before .before .before .before .before .before .before .before .before .before .before .args in
+    let a = c .before .before .before .before .before .before .before .before .before .before .before .before .before .args in
     let v = view (a .index) in
-    answer-as (a .index) (c .admitted .result) _ (storeOf 240 v (now (a .bytes)) (now (a .content))) (c .admitted .ensures)
-    (store-admit 240 v (now (a .bytes)) (now (a .content)) _ _ (kept (c .before .before .before .before .before .before .before .before)) (read (c .before .before .before .before .before))
-    (was-given _ _ (c .before .before .before .before .check .ensures) (c .before .before .enum-told2 .given .1)))
+    answer-as (a .index) (c .refused3 .result) _ (storeOf 240 v (now (a .bytes)) (now (a .content))) (c .refused3 .ensures)
+    (store-content 240 v (now (a .bytes)) (now (a .content)) _ _ _ (kept (c .before .before .before .before .before .before .before .before .before)) (read (c .before .before .before .before .before .before))
+    (was-not _ (c .before .before .before .before .check .ensures) (c .before .before .examined2 .given .1)) (search needs))
 
 pub store-spec : {M : Type 1} → statement M
 store-spec =
@@ -100,9 +101,9 @@ store-spec =
     returns-2
     enum-told
     check-requires
-    enum-known-passed
+    enum-known-examined
+    admitted-requires
+    enum-known-examined-2
     refused-requires-3
     returns-3
-    enum-told-2
-    admitted-requires
     returns-4)

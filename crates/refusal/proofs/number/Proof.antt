@@ -73,6 +73,9 @@ enum-told-19 c = search needs
 enum-told-20 : tie.Need-enum-told-20
 enum-told-20 c = search needs
 
+enum-told-21 : tie.Need-enum-told-21
+enum-told-21 c = search needs
+
 returns : tie.Need-returns
 returns c = let e = shown (c .enum-told .given .1) in omega arith
 
@@ -133,6 +136,9 @@ returns-19 c = let e = shown (c .enum-told19 .given .1) in omega arith
 returns-20 : tie.Need-returns-20
 returns-20 c = let e = shown (c .enum-told20 .given .1) in omega arith
 
+returns-21 : tie.Need-returns-21
+returns-21 c = let e = shown (c .enum-told21 .given .1) in omega arith
+
 pub number-spec : {M : Type 1} → statement M
 number-spec =
     tie.close
@@ -157,6 +163,7 @@ number-spec =
     enum-told-18
     enum-told-19
     enum-told-20
+    enum-told-21
     returns
     returns-2
     returns-3
@@ -176,4 +183,5 @@ number-spec =
     returns-17
     returns-18
     returns-19
-    returns-20)
+    returns-20
+    returns-21)

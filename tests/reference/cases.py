@@ -1,8 +1,8 @@
 """The inputs that the programs are run on."""
+from content_cases import content_edges, contents
 from history import digits, distance, key_id, make_key
-from index_cases import content_edges, index_lines
+from index_cases import index_lines
 from message_cases import all_messages, write_lines
-from rlp import header
 from routing_cases import routing_lines
 from snapshot_cases import snapshot_lines
 from stream import Stream
@@ -121,23 +121,6 @@ def interest_lines(stream):
     lines += [interest_line(key_id(k), 0, k) for k in keys[:20]]
     lines += [interest_line(0, stream.pick([0, ONES]), k) for k in bad_keys(stream)]
     return lines
-
-
-def contents(stream):
-    """Lists of every length form, whole, short and long by some bytes, and headers that are not the shortest or lie."""
-    found = [b'', b'\xc0', b'\xc1', b'\xf8\0', b'\xf8\x37' + bytes(55), b'\xf8\x38' + bytes(56), b'\xf9\0\x38' + bytes(56)]
-    large = header(32000) + stream.take(32000)
-    found += [large, large[:-1], large + b'\0']
-    for size in (0, 1, 2, 54, 55, 56, 57, 255, 256, 257, 1000):
-        whole = header(size) + stream.take(size)
-        found += [whole, whole[:-1], whole + b'\0', whole + stream.take(9), whole[1:], b'\0' + whole]
-        digits = size.to_bytes(8, 'big')
-        found += [bytes([0xF7 + k]) + digits[8 - k :] + bytes(size) for k in range(1, 9)]
-    for k in range(1, 9):
-        # lengths that only a sum that wraps would take for right
-        found += [bytes([0xF7 + k]) + (2 ** (8 * k) - d).to_bytes(k, 'big') + bytes(n) for d in (1, 1 + k, 9) for n in (0, 1, 64)]
-        found += [bytes([0xF7 + k]) + b'\1' * n for n in range(k + 2)]
-    return found + [bytes([b]) + stream.take(n) for b in range(256) for n in (0, 1)]
 
 
 def no_calls(stream):

@@ -1,7 +1,7 @@
-"""Calls on the index: document 01's full case, caps at the edge, removals at every place, and long random runs."""
+"""Calls on the index: document 01's full case, caps at the edge, removals at every place, content of every kind, and long random runs."""
+from content_cases import content_edges
 from history import digits, distance, key_id, make_key
 from index import LIMIT
-from rlp import header
 
 ONES = 2**256 - 1
 EMPTY, WHOLE = b'\xc0', b'\xf8\x38' + bytes(56)
@@ -72,23 +72,8 @@ def refusals(stream):
     return lines + SHOW + [store(held)] + SHOW
 
 
-def content_edges():
-    """Content on each side of every edge between accepted, ended early and wrong, and cut and lengthened at every byte of its header."""
-    zeros = [b'\xf7' + bytes(n) for n in (0, 54, 55, 56)] + [b'\xc0' + bytes(n) for n in (1, 2)] + [b'\xc1' + bytes(n) for n in (0, 1, 2)]
-    zeros += [b'\xf8\x37' + bytes(n) for n in (0, 54, 55, 56)] + [b'\xf8\x38' + bytes(n) for n in (0, 55, 56, 57)]
-    zeros += [b'\xf8\xff' + bytes(n) for n in (254, 255, 256)] + [b'\xf9\1\0' + bytes(n) for n in (255, 256, 257)]
-    heads = ['f8', 'f800', 'f801', 'f837', 'f838', 'f9', 'f900', 'f901', 'f9ff', 'f90000', 'f90037', 'f90038', 'f900ff', 'f90100', 'fa', 'fa00', 'fa0001', 'fa01', 'fa0100']
-    heads += ['bf', 'b8', 'ff', 'ff00', 'ff01', 'ff' * 2, 'ff00' + 'ff' * 7, 'ff' * 8, 'ff' * 9, 'ff' * 10, 'ff80' + '00' * 7, 'ff' + '00' * 7 + '38', 'ff01' + '00' * 7]
-    found = zeros + [bytes.fromhex(head) for head in heads]
-    for size in (0, 1, 55, 56, 255, 256, 400):
-        whole = header(size) + bytes(range(1, 1 + size % 251))[:size].ljust(size, b'\7')
-        cuts = set(range(6)) | {len(whole) - n for n in (1, 2)}
-        found += [whole[:n] for n in sorted(cuts) if 0 <= n < len(whole)] + [whole, whole + b'\0', whole + whole]
-    return found
-
-
 def places():
-    """Each of those contents stored, refused and accepted, also where a key is held, and with a key evicted."""
+    """Content on each side of every edge, stored into an index with room, under a key that is held, and into a full one."""
     edges = content_edges()
     lines = [fresh(0, ONES)] + [store(make_key(0, n), content) for n, content in enumerate(edges)] + SHOW
     lines += [store(make_key(0, 2), content) for content in edges[:12]]

@@ -25,8 +25,8 @@ def ends_early(content):
 
 
 def lengths(content):
-    """Lengths of payloads that the content may begin to write: the short ones, and the one that its length bytes give. Of length bytes
-    that are missing any will do, as the first is there or may be chosen."""
+    """Lengths of payloads that the content may begin to write: the short ones, and the one that its length bytes give. Those that are missing
+    count as ff, so that the length is large enough."""
     yield from range(56)
     size = content[0] - 0xF7
     if size > 0:

@@ -71,13 +71,14 @@ pub fn error(out: &mut [u8]) -> usize {
 pub fn refused(out: &mut [u8], why: Refusal) -> usize {
     let said = text(out, 0, b"refused ");
     let n = refusal::number(why);
-    let at = decimal(out, said, n as u64);
     match why {
         Refusal::BadSnapshot { line } => {
-            let space = text(out, at, b" ");
-            let last = decimal(out, space, line as u64);
+            let last = decimals(out, said, n as usize, line);
             end(out, last)
         }
-        _ => end(out, at),
+        _ => {
+            let last = decimal(out, said, n as u64);
+            end(out, last)
+        }
     }
 }

@@ -13,7 +13,7 @@ use lib.Bits.{bitOr, or-shifted}
 use lib.ListN.{length, length-append, replicate, take}
 use lib.Seq.{take-at}
 use Rattle.octets.specs.Bytes.{Bytes, be, le, beBytes}
-use Rattle.octets.proofs.Numbers.{bytes-append, bytes-zeros, be-append, be-zeros, be-beBytes-below, beBytes-length, beBytes-bytes, le-lt, le-inj}
+use Rattle.octets.proofs.Numbers.{bytes-append, bytes-replicate, be-append, be-zeros, be-beBytes-below, beBytes-length, beBytes-bytes, le-lt, le-inj}
 use Rattle.content_key.specs.Id.{reverseBits, idOf}
 use Rattle.content_key.specs.Key.{keyId}
 use Rattle.content_key.proofs.Reversal.{reverse-lt, reverse-add, reverse-inj, reverse-zero}
@@ -37,7 +37,7 @@ module _ (s n : ℕ) where
       bytes-append (beBytes 2 (n % 65536) ++ beBytes 6 (reverseBits 48 (n / 65536)) ++ replicate 23 0) (s ∷ [])
       (bytes-append (beBytes 2 (n % 65536) ++ beBytes 6 (reverseBits 48 (n / 65536))) (replicate 23 0)
       (bytes-append (beBytes 2 (n % 65536)) (beBytes 6 (reverseBits 48 (n / 65536))) (beBytes-bytes 2 (n % 65536)) (beBytes-bytes 6 (reverseBits 48 (n / 65536))))
-      (bytes-zeros 23))
+      (bytes-replicate 23 0 (omega arith)))
       (h, tt)
 
   -- the id as a number: the remainder by 65,536 in its top 16 bits, then the quotient's 48 bits reversed, and the selector

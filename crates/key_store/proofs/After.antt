@@ -1,20 +1,14 @@
 -- The view after a store call: a good view of bytes stays one. What is stored is the key offered to the held ones, so each key of the
--- result is the new one or was held. And what it hands on: the place of the payload in its content. Assumes nothing.
+-- result is the new one or was held. Assumes nothing.
 use Prim.Native.Nat.{ℕ, _≤_, _<_}
 use native.Mathlib.Omega.{arith}
-use mathlib.Core.Path.{_≡_, refl, sym, subst, _∙_}
+use mathlib.Core.Path.{_≡_, refl, sym, subst}
 use mathlib.Core.Bool.{true}
 use mathlib.Core.Logic.{⊎-elim}
 use mathlib.Core.List.{List, [], _∷_, _++_, List·Memᴰ·head as here, List·Memᴰ·tail as there}
 use lib.ListN.{length, length-take}
-use Rattle.refusal.specs.Outcome.{Outcome}
-use Rattle.refusal.proofs.Outcomes.{given-not}
 use Rattle.octets.specs.Bytes.{Bytes, be}
 use Rattle.content_key.specs.Key.{selectorOf}
-use Rattle.rlp.specs.Content.{contentOf}
-use Rattle.rlp.specs.Written.{Placed}
-use Rattle.rlp.specs.declared.Payload.{Payload}
-use Rattle.rlp.proofs.Contents.{given-iff}
 use Rattle.nearest.specs.Sorted.{_among_}
 use Rattle.nearest.specs.Insert.{insert, offer}
 use Rattle.nearest.proofs.Lists.{among-take, middle-self}
@@ -26,7 +20,7 @@ use Rattle.key_index.specs.Good.{awayFrom, good, lastOf}
 use Rattle.key_index.specs.Keys.{Each, NineBytes}
 use Rattle.key_index.proofs.Each.{each-member}
 use Rattle.key_index.proofs.Rules.{good-facts, facts-good}
-use Rattle.key_store.specs.Store.{Storing, storeOf, nextOf, handedOn}
+use Rattle.key_store.specs.Store.{Storing, storeOf, nextOf}
 use Rattle.key_store.specs.Cases.{OfBytes, Fresh, Stores, bad, no-length, no-selector, no-content, held, beyond, room, full}
 use Rattle.key_store.proofs.Facts.{sorted-near, near-sorted}
 use Rattle.key_store.proofs.Cases.{store-cases}
@@ -98,16 +92,6 @@ module _ (limit : ℕ) (v : View) (key content : List ℕ) (o : OfBytes v) where
       subst (λ (ks : List (List ℕ)). OfBytes (withKeys v ks)) (as-offer limit v key h f) (offer-bytes limit v key o (record { size = a .size; bytes = b }))
   bytes-case b (full a f h front e w) = offer-bytes limit v key o (record { size = a .size; bytes = b })
 
-  payload-case : {s : Storing} (payload : Payload) → Stores limit v key content s → handedOn s ≡ Outcome.given payload → contentOf content ≡ Outcome.given payload
-  payload-case p (bad h) e = given-not (sym e)
-  payload-case p (no-length h l) e = given-not (sym e)
-  payload-case p (no-selector h l s) e = given-not (sym e)
-  payload-case p (no-content h l s t) e = given-not (sym e)
-  payload-case p (held a m) e = given-not (sym e)
-  payload-case p (beyond a f h) e = given-not (sym e)
-  payload-case p (room a f h w) e = a .listed ∙ e
-  payload-case p (full a f h front q w) e = a .listed ∙ e
-
   module _ (some : 0 < limit) (b : Bytes key) where
     -- a good view stays good
     pub store-good : good limit v ≡ true → good limit (nextOf v (storeOf limit v key content)) ≡ true
@@ -116,7 +100,3 @@ module _ (limit : ℕ) (v : View) (key content : List ℕ) (o : OfBytes v) where
     -- and its keys nine bytes each
     pub store-bytes : OfBytes (nextOf v (storeOf limit v key content))
     store-bytes = bytes-case b (store-cases limit v key content some o b)
-
-    -- what an accepted call hands on is where the payload stands in its content
-    pub store-placed : Bytes content → (payload : Payload) → handedOn (storeOf limit v key content) ≡ Outcome.given payload → Placed content payload
-    store-placed c payload e = given-iff content c payload .0 (payload-case payload (store-cases limit v key content some o b) e)

@@ -15,21 +15,13 @@ use Rattle.key_index.specs.Good.{awayFrom, good, radiusOf}
 use Rattle.key_index.specs.Calls.{isHeld}
 use Rattle.key_index.specs.declared.KeyIndex.{KeyIndex}
 use Rattle.key_store.specs.Store.{Storing, refused, putOf, admitOf, contentStoreOf, keyStoreOf, storeOf}
-use Rattle.key_store.specs.Answer.{Given, givenBy, meaningOf, evictedOr0}
+use Rattle.key_store.specs.Answer.{givenBy, meaningOf, evictedOr0}
 use Rattle.key_store.specs.declared.StoreAnswer.{StoreAnswer}
 
 -- what an answer says of an outcome, it says of any way to write the outcome
 pub answer-as : (index : KeyIndex) (r : StoreAnswer) (a s : Storing) → (meaningOf r ≡ givenBy index a) × (r .evicted ≡ evictedOr0 a) → a ≡ s
     → (meaningOf r ≡ givenBy index s) × (r .evicted ≡ evictedOr0 s)
 answer-as index r a s h e = (h .0 ∙ ap (givenBy index) e, h .1 ∙ ap evictedOr0 e)
-
--- an accepted answer that holds the payload's place that is due
-pub handed : (f : Payload → Given) (payload due : Payload) {g : Given} → f due ≡ g → payload ≡ due → f payload ≡ g
-handed f payload due e same = ap f same ∙ e
-
--- a refusal with the number that is due
-pub said : (n m : ℕ) {s : Storing} → refused (only m) ≡ s → n ≡ m → refused (only n) ≡ s
-said n m e k = ap (λ (i : ℕ). refused (only i)) k ∙ e
 
 module _ (limit : ℕ) (v : View) (key : List ℕ) (payload : Payload) where
   pub admit-held : isHeld key v ≡ true → refused (only 11) ≡ admitOf limit v key payload
@@ -63,11 +55,11 @@ module _ (limit : ℕ) (v : View) (bytes content : List ℕ) where
   store-after key o g k e = ap (contentStoreOf limit v key) e ∙ store-read (Outcome.given key) g k
 
   -- refused as its content is
-  pub store-content : (key : List ℕ) (says due : Said) → good limit v ≡ true → Outcome.given key ≡ keyOf bytes → Outcome.refusal due ≡ contentOf content
-      → says ≡ due → refused says ≡ storeOf limit v bytes content
-  store-content key says due g k e same = ap refused same ∙ store-after key (Outcome.refusal due) g k e
+  pub store-content : (key : List ℕ) (says : Said) → good limit v ≡ true → Outcome.given key ≡ keyOf bytes → Outcome.refusal says ≡ contentOf content
+      → refused says ≡ storeOf limit v bytes content
+  store-content key says g k e = store-after key (Outcome.refusal says) g k e
 
   -- or tested further, with the place of its payload
-  pub store-admit : (key : List ℕ) (payload due : Payload) → good limit v ≡ true → Outcome.given key ≡ keyOf bytes → Outcome.given due ≡ contentOf content
-      → payload ≡ due → admitOf limit v key payload ≡ storeOf limit v bytes content
-  store-admit key payload due g k e same = ap (admitOf limit v key) same ∙ store-after key (Outcome.given due) g k e
+  pub store-admit : (key : List ℕ) (payload : Payload) → good limit v ≡ true → Outcome.given key ≡ keyOf bytes → Outcome.given payload ≡ contentOf content
+      → admitOf limit v key payload ≡ storeOf limit v bytes content
+  store-admit key payload g k e = store-after key (Outcome.given payload) g k e

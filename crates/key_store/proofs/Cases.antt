@@ -63,10 +63,10 @@ module _ (limit : ℕ) (v : View) (key content : List ℕ) (some : 0 < limit) (o
     where
       read : selectorOf key ≤ 1 → (o : Outcome Payload) → contentOf content ≡ o → Stores limit v key content (storeOf limit v key content)
       read s (Outcome.given payload) e =
-          subst (Stores limit v key content) (store-admit limit v key content key payload payload g (sym (key-given key l s)) (sym e) refl)
+          subst (Stores limit v key content) (store-admit limit v key content key payload g (sym (key-given key l s)) (sym e))
           (admit-cases payload (record { kept = g; size = l; selector = s; listed = e }))
       read s (Outcome.refusal says) e =
-          subst (Stores limit v key content) (store-content limit v key content key says says g (sym (key-given key l s)) (sym e) refl) (no-content g l s e)
+          subst (Stores limit v key content) (store-content limit v key content key says g (sym (key-given key l s)) (sym e)) (no-content g l s e)
 
       go : (t : Bool) → leb (selectorOf key) 1 ≡ t → Stores limit v key content (storeOf limit v key content)
       go true e = read (leb-true (selectorOf key) 1 e) (contentOf content) refl

@@ -6,3 +6,4 @@ pub mod Putting
 pub mod Answers
 pub mod Cases
 pub mod After
+pub mod Payloads

@@ -47,10 +47,10 @@ bytes-reverse xs h = onto xs [] h tt
     onto [] ys h k = k
     onto (x ∷ xs) ys h k = onto xs (x ∷ ys) (h .1) (h .0, k)
 
--- zeros are bytes
-pub bytes-zeros : (n : ℕ) → Bytes (replicate n 0)
-bytes-zeros zero = tt
-bytes-zeros (suc n) = (lit< tt, bytes-zeros n)
+-- a byte many times over is bytes
+pub bytes-replicate : (n b : ℕ) → b < 256 → Bytes (replicate n b)
+bytes-replicate zero b h = tt
+bytes-replicate (suc n) b h = (h, bytes-replicate n b h)
 
 -- k bytes stand for less than 256 ^ k
 pub be-lt : (xs : List ℕ) → Bytes xs → be xs < 256 ^ length xs

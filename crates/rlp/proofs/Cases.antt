@@ -5,29 +5,20 @@ use native.Mathlib.Nat.{pow-suc, pow-le-pow-right}
 use native.Mathlib.Numerals.{add-one}
 use native.Mathlib.Omega.{arith}
 use mathlib.Core.List.{List, [], _∷_}
-use mathlib.Core.Path.{_≡_, refl, sym, ap, ap₂, _∙_}
+use mathlib.Core.Bool.{cond}
+use mathlib.Core.Path.{_≡_, refl, sym, ap, _∙_}
 use lib.Arith.{digits-lt}
-use lib.Dec.{lit<}
+use lib.Dec.{leb, lit<}
 use lib.ListN.{length, getD, take, drop}
 use lib.Seq.{take-suc}
 use borrow.Author.Tests.{lt-ltb, le-ltb, le-leb, lt-leb, eq-eqb, ne-eqb}
-use Rattle.refusal.specs.Outcome.{Outcome, given, refused}
+use Rattle.refusal.specs.Outcome.{given, refused}
 use Rattle.octets.specs.Bytes.{be}
 use Rattle.octets.proofs.Numbers.{be-append}
 use Rattle.rlp.specs.Content.{place, longHeader, headerIn, filled, contentBy, contentOf}
 use Rattle.rlp.specs.declared.Payload.{Payload}
 use Rattle.rlp.specs.declared.Header.{Header}
 use Rattle.rlp.specs.declared.Header.the-variants.{Wrong, Cut, Whole}
-
--- an answer that is the header, the place or the number that is due
-pub header-as : (h due : Header) {x : Header} → x ≡ due → h ≡ due → h ≡ x
-header-as h due e f = f ∙ sym e
-
-pub place-as : (start len a b : ℕ) {x : Header} → x ≡ Whole (place a b) → start ≡ a → len ≡ b → Whole (place start len) ≡ x
-place-as start len a b e f g = ap₂ (λ (i j : ℕ). Whole (place i j)) f g ∙ sym e
-
-pub said-as : (n due : ℕ) {o : Outcome Payload} → o ≡ refused due → n ≡ due → refused n ≡ o
-said-as n due e f = ap (λ (i : ℕ). refused i) f ∙ sym e
 
 -- none of the length bytes is there
 pub long-none : (k : ℕ) (rest : List ℕ) → length rest ≡ 0 → longHeader k rest ≡ Cut
@@ -45,17 +36,19 @@ module _ (k : ℕ) (rest : List ℕ) (some : 0 < length rest) where
   unfolding longHeader
   long-missing z h = rw (ne-eqb (length rest) 0 (λ e. omega arith), ne-eqb (getD rest 0 0) 0 (λ e. omega arith), lt-ltb (length rest) k h)
 
-  -- all are there, and the length has the short form
-  pub long-small : 0 < getD rest 0 0 → k ≤ length rest → be (take k rest) ≤ 55 → longHeader k rest ≡ Wrong
+  -- all are there: the length decides
+  pub long-counted : 0 < getD rest 0 0 → k ≤ length rest
+      → longHeader k rest ≡ cond (leb (be (take k rest)) 55) Wrong (Whole (place (1 + k) (be (take k rest))))
   unfolding longHeader
-  long-small z h s =
-      rw (ne-eqb (length rest) 0 (λ e. omega arith), ne-eqb (getD rest 0 0) 0 (λ e. omega arith), le-ltb (length rest) k h, le-leb (be (take k rest)) 55 s)
+  long-counted z h = rw (ne-eqb (length rest) 0 (λ e. omega arith), ne-eqb (getD rest 0 0) 0 (λ e. omega arith), le-ltb (length rest) k h)
+
+  -- it has the short form
+  pub long-small : 0 < getD rest 0 0 → k ≤ length rest → be (take k rest) ≤ 55 → longHeader k rest ≡ Wrong
+  long-small z h s = long-counted z h ∙ rw (le-leb (be (take k rest)) 55 s)
 
   -- the header is whole
   pub long-whole : 0 < getD rest 0 0 → k ≤ length rest → 55 < be (take k rest) → longHeader k rest ≡ Whole (place (1 + k) (be (take k rest)))
-  unfolding longHeader
-  long-whole z h l =
-      rw (ne-eqb (length rest) 0 (λ e. omega arith), ne-eqb (getD rest 0 0) 0 (λ e. omega arith), le-ltb (length rest) k h, lt-leb (be (take k rest)) 55 l)
+  long-whole z h l = long-counted z h ∙ rw (lt-leb (be (take k rest)) 55 l)
 
 -- no bytes
 pub first-none : (s : List ℕ) → length s ≡ 0 → headerIn s ≡ Wrong

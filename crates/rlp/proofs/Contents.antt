@@ -7,20 +7,20 @@ use native.Mathlib.Omega.{arith}
 use mathlib.Core.List.{List, [], _∷_, _++_, append-assoc}
 use mathlib.Core.Logic.{_⊎_, _↔_, inl, inr, ⊎-elim}
 use mathlib.Core.Path.{_≡_, refl, sym, ap, ap₂, subst, _∙_}
-use lib.ListN.{length, take, drop, replicate, length-append, length-drop, length-replicate}
+use lib.ListN.{length, drop, replicate, length-append, length-drop, length-replicate}
 use lib.Seq.{take-all}
 use Rattle.refusal.specs.Says.{Said, only}
 use Rattle.refusal.specs.Outcome.{Outcome, given, refusal, refused}
 use Rattle.refusal.proofs.Outcomes.{given-not}
 use Rattle.octets.specs.Bytes.{Bytes}
-use Rattle.octets.proofs.Numbers.{bytes-append, bytes-zeros}
-use Rattle.rlp.specs.Content.{place, headerIn, contentBy, contentOf}
+use Rattle.octets.proofs.Numbers.{bytes-append, bytes-replicate}
+use Rattle.rlp.specs.Content.{place, headerIn, contentOf}
 use Rattle.rlp.specs.Written.{headerOf, payloadIn, Placed, Acceptable, Completes, EndsEarly, IsWrong}
 use Rattle.rlp.specs.declared.Payload.{Payload}
 use Rattle.rlp.specs.declared.Header.{Header}
 use Rattle.rlp.specs.declared.Header.the-variants.{Wrong, Cut, Whole}
 use Rattle.rlp.proofs.Cases.{first-none, filled-early, filled-over, filled-whole, content-by}
-use Rattle.rlp.proofs.Headers.{wrong-header-more, whole-header-more, header-within, header-written, written-header, header-cut}
+use Rattle.rlp.proofs.Headers.{never, header-more, header-within, header-written, written-header, header-cut}
 
 -- content, and what it comes to
 data Examines (s : List ℕ) : Outcome Payload → Type 0 where
@@ -104,11 +104,11 @@ pub wrong-more : (s more : List ℕ) → ¬ (s ≡ []) → contentOf s ≡ refus
 wrong-more s more some e = go (examines s) e
   where
     go : {o : Outcome Payload} → Examines s o → o ≡ refused 9 → contentOf (s ++ more) ≡ refused 9
-    go (wrong h) f = content-by (s ++ more) Wrong (wrong-header-more s more (not-empty s some) h)
+    go (wrong h) f = content-by (s ++ more) Wrong (header-more s more Wrong (not-empty s some) h (λ c. never (cc)))
     go (cut h) f = apart f
     go (early p h l) f = apart f
     go (over p h l) f =
-        content-over (s ++ more) p (whole-header-more s more p (not-empty s some) h) (omega (arith, length-append s more))
+        content-over (s ++ more) p (header-more s more (Whole p) (not-empty s some) h (λ c. never (cc))) (omega (arith, length-append s more))
     go (fits p h l) f = given-not f
 
 -- a whole header is completed by zeros
@@ -119,9 +119,9 @@ whole-completes s bytes p e l =
     let more : List ℕ = replicate (p .start + p .len - length s) 0 in
     let n : length more ≡ p .start + p .len - length s = length-replicate (p .start + p .len - length s) 0 in (
       p,
-      given-placed (s ++ more) (bytes-append s more bytes (bytes-zeros (p .start + p .len - length s))) p
+      given-placed (s ++ more) (bytes-append s more bytes (bytes-replicate (p .start + p .len - length s) 0 (omega arith))) p
           (content-fits (s ++ more) p
-          (whole-header-more s more p (omega arith) e)
+          (header-more s more (Whole p) (omega arith) e (λ c. never (cc)))
           (omega (arith, length-append s more))),
     )
 
@@ -133,7 +133,7 @@ cut-completes s bytes e =
     let p = f .payload in
     let zeros : List ℕ = replicate (p .start + p .len - length (s ++ more)) 0 in (
       more ++ zeros,
-      bytes-append more zeros (f .bytes) (bytes-zeros (p .start + p .len - length (s ++ more))),
+      bytes-append more zeros (f .bytes) (bytes-replicate (p .start + p .len - length (s ++ more)) 0 (omega arith)),
       subst Acceptable (append-assoc s more zeros)
           (whole-completes (s ++ more) (bytes-append s more bytes (f .bytes)) p (f .header) (omega arith)),
     )
@@ -152,7 +152,7 @@ early-ends s bytes e = record { some = some; not = refused-not s 16 e; more = go
     go (wrong h) f = apart (sym f)
     go (cut h) f = cut-completes s bytes h
     go (early p h l) f =
-        (replicate (p .start + p .len - length s) 0, bytes-zeros (p .start + p .len - length s), whole-completes s bytes p h (omega arith))
+        (replicate (p .start + p .len - length s) 0, bytes-replicate (p .start + p .len - length s) 0 (omega arith), whole-completes s bytes p h (omega arith))
     go (over p h l) f = apart (sym f)
     go (fits p h l) f = given-not f
 

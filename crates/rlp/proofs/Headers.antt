@@ -1,26 +1,27 @@
 -- Headers of lists. What is read as a whole header is the one that RLP writes for its length, and the other way round; bytes behind a header
 -- that is not cut change nothing; one that is cut can be completed. Assumes nothing.
-use Prim.Native.Nat.{ℕ, zero, suc, _+_, _-_, _*_, _^_, _≤_, _<_}
+use Prim.Native.Nat.{ℕ, suc, _+_, _-_, _*_, _^_, _≤_, _<_}
 use native.Mathlib.Decide.{decLt}
 use native.Mathlib.Nat.{pow-le-pow-right, one-le-pow}
 use native.Mathlib.Omega.{arith}
+use mathlib.Core.Bool.{cond}
 use mathlib.Core.List.{List, [], _∷_, _++_}
 use mathlib.Core.Path.{_≡_, refl, sym, ap, ap₂, subst, _∙_}
-use lib.Dec.{lit<}
+use lib.Dec.{leb, lit<}
 use lib.ListN.{length, getD, take, drop, replicate, length-append, length-drop, length-replicate, take-append-drop, List·getD-append}
 use lib.Seq.{length-take-le, take-all, take-append-le, take-append-seam, drop-append-le, drop-drop, getD-take}
 use Rattle.octets.specs.Bytes.{Bytes, be}
-use Rattle.octets.proofs.Numbers.{bytes-take, be-lt, be-append}
+use Rattle.octets.proofs.Numbers.{bytes-take, bytes-replicate, be-lt, be-append}
 use Rattle.rlp.specs.Content.{place, longHeader, headerIn}
 use Rattle.rlp.specs.Written.{fewest, headerOf}
 use Rattle.rlp.specs.declared.Payload.{Payload}
 use Rattle.rlp.specs.declared.Header.{Header}
 use Rattle.rlp.specs.declared.Header.the-variants.{Wrong, Cut, Whole}
-use Rattle.rlp.proofs.Cases.{long-none, long-zero, long-missing, long-small, long-whole, first-none, first-low, first-short, first-long}
+use Rattle.rlp.proofs.Cases.{long-none, long-zero, long-missing, long-counted, long-small, long-whole, first-none, first-low, first-short, first-long}
 use Rattle.rlp.proofs.Written.{be-fewest, fewest-head, fewest-be, head-append, head-length, header-short, header-long}
 
 -- two constructors are never equal
-never : {A : Type 0} → _≡_ {A = ℕ} 0 1 → A
+pub never : {A : Type 0} → _≡_ {A = ℕ} 0 1 → A
 never e = absurd (omega arith)
 
 -- the first byte, what follows it, and how many length bytes it asks for, from f8 on
@@ -91,9 +92,18 @@ begins s = there (decLt 0 (length s))
     there (yes n) = tested (decLt (first s) 192)
     there (no n) = subst (Begins s) (sym (first-none s (omega arith))) (empty (omega arith))
 
--- bytes behind a header that is not cut change nothing
-header-more : (s t : List ℕ) → 0 < length s → ¬ (headerIn s ≡ Cut) → headerIn (s ++ t) ≡ headerIn s
-header-more s t some n = go (begins s) n
+-- bytes behind length bytes that are all there change nothing,
+long-more : (k : ℕ) (rest t : List ℕ) → 0 < length rest → 0 < first rest → k ≤ length rest → longHeader k (rest ++ t) ≡ longHeader k rest
+long-more k rest t n z all =
+    let f : first (rest ++ t) ≡ first rest = List·getD-append rest t 0 0 n in
+    let j : length (rest ++ t) ≡ length rest + length t = length-append rest t in
+    long-counted k (rest ++ t) (omega arith) (omega arith) (omega arith)
+    ∙ ap (λ (len : ℕ). cond (leb len 55) Wrong (Whole (place (1 + k) len))) (ap be (take-append-le k rest t all))
+    ∙ sym (long-counted k rest n z all)
+
+-- nor do bytes behind a header that is not cut
+pub header-more : (s t : List ℕ) (h : Header) → 0 < length s → headerIn s ≡ h → ¬ (h ≡ Cut) → headerIn (s ++ t) ≡ h
+header-more s t h some is n = go (begins s) (λ c. n (sym is ∙ c)) ∙ is
   where
     same : first (s ++ t) ≡ first s
     same = List·getD-append s t 0 0 some
@@ -104,7 +114,10 @@ header-more s t some n = go (begins s) n
         first-long (s ++ t) (omega arith)
         ∙ ap₂ (λ (b : ℕ) (rest : List ℕ). longHeader (b - 247) rest) e (drop-append-le 1 s t (omega arith))
 
-    go : {h : Header} → Begins s h → ¬ (h ≡ Cut) → headerIn (s ++ t) ≡ h
+    counted : 247 < first s → Counted s → headerIn (s ++ t) ≡ longHeader (asks s) (behind s)
+    counted b c = after b ∙ long-more (asks s) (behind s) t (c .some) (c .high) (c .all)
+
+    go : {x : Header} → Begins s x → ¬ (x ≡ Cut) → headerIn (s ++ t) ≡ x
     go (empty e) m = absurd (omega arith)
     go (low b) m = let e = same in first-low (s ++ t) (omega arith)
     go (short l u) m =
@@ -114,24 +127,8 @@ header-more s t some n = go (begins s) n
         after b
         ∙ long-zero (asks s) (behind s ++ t) (omega (arith, length-append (behind s) t)) (List·getD-append (behind s) t 0 0 l ∙ z)
     go (cut b l z) m = absurd (m refl)
-    go (small b c l) m =
-        let e : be (take (asks s) (behind s ++ t)) ≡ size s = ap be (take-append-le (asks s) (behind s) t (c .all)) in
-        let f : first (behind s ++ t) ≡ first (behind s) = List·getD-append (behind s) t 0 0 (c .some) in
-        let j : length (behind s ++ t) ≡ length (behind s) + length t = length-append (behind s) t in
-        after b ∙ long-small (asks s) (behind s ++ t) (omega arith) (omega arith) (omega arith) (omega arith)
-    go (long b c l) m =
-        let e : be (take (asks s) (behind s ++ t)) ≡ size s = ap be (take-append-le (asks s) (behind s) t (c .all)) in
-        let f : first (behind s ++ t) ≡ first (behind s) = List·getD-append (behind s) t 0 0 (c .some) in
-        let j : length (behind s ++ t) ≡ length (behind s) + length t = length-append (behind s) t in
-        after b
-        ∙ long-whole (asks s) (behind s ++ t) (omega arith) (omega arith) (omega arith) (omega arith)
-        ∙ ap (λ (len : ℕ). Whole (place (1 + asks s) len)) e
-
-pub wrong-header-more : (s t : List ℕ) → 0 < length s → headerIn s ≡ Wrong → headerIn (s ++ t) ≡ Wrong
-wrong-header-more s t some e = header-more s t some (λ c. never (cc)) ∙ e
-
-pub whole-header-more : (s t : List ℕ) (p : Payload) → 0 < length s → headerIn s ≡ Whole p → headerIn (s ++ t) ≡ Whole p
-whole-header-more s t p some e = header-more s t some (λ c. never (cc)) ∙ e
+    go (small b c l) m = counted b c ∙ long-small (asks s) (behind s) (c .some) (c .high) (c .all) l
+    go (long b c l) m = counted b c ∙ long-whole (asks s) (behind s) (c .some) (c .high) (c .all) l
 
 -- content that begins with a whole header, and where its payload stands
 data Shows (s : List ℕ) : Payload → Type 0 where
@@ -248,10 +245,6 @@ be-pad rest m =
     be-append rest (replicate (suc m) 255) in
     omega (arith, one-le-pow (length {A = ℕ} (replicate m 255)) 256 (lit< tt))
 
-bytes-pad : (m : ℕ) → Bytes (replicate m 255)
-bytes-pad zero = tt
-bytes-pad (suc m) = (omega arith, bytes-pad m)
-
 -- a header that is cut can be completed
 pub header-cut : (s : List ℕ) → headerIn s ≡ Cut → Finishes s
 header-cut s e = go (begins s) e
@@ -268,7 +261,7 @@ header-cut s e = go (begins s) e
         let v : be (take (asks s) (behind s ++ pad)) ≡ be (behind s ++ pad) = ap be (take-all (asks s) (behind s ++ pad) (omega arith)) in
         record {
           more = pad;
-          bytes = bytes-pad (suc m);
+          bytes = bytes-replicate (suc m) 255 (omega arith);
           payload = place (1 + asks s) (be (take (asks s) (behind s ++ pad)));
           header = first-long (s ++ pad) (omega arith)
               ∙ ap₂ longHeader (omega arith) (drop-append-le 1 s pad (omega arith))

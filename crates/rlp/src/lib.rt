@@ -1,5 +1,5 @@
 // The outer list of content: whether bytes are one RLP list that fills them, and where its payload stands.
-ghost use Prim.Native.Nat.{_≤_, _<_};
+ghost use Prim.Native.Nat.{_≤_};
 ghost use mathlib.Core.Path.{_≡_};
 ghost use lib.ListN.{length, take};
 ghost use Rattle.octets.specs.Bytes.{be};
@@ -73,7 +73,7 @@ fn header_in(content: &[u8]) -> Header
 
 // A header whose first byte asks for k length bytes, with what comes after that byte.
 fn long_header(rest: &[u8], k: usize) -> Header
-    requires { ⌜ (0 < k) × (k ≤ 8) ⌝ }
+    requires { ⌜ k ≤ 8 ⌝ }
     ensures { λ r. ⌜ r ≡ longHeader k (now (rest .entry)) ⌝ }
 {
     if rest.len() == 0 {

@@ -6,6 +6,7 @@ use mathlib.Core.Path.{_≡_, sym, ap, _∙_}
 use mathlib.Core.Bool.{true, false}
 use lib.Dec.{leb}
 use Rattle.refusal.specs.Says.{only}
+use Rattle.refusal.proofs.Due.{due}
 use borrow.Author.Tests.{leb-true, leb-false, le-leb, lt-leb}
 use Rattle.distance.proofs.Tested.{over-true, over-false}
 use Rattle.octets.specs.Bytes.{be}
@@ -15,7 +16,7 @@ use Rattle.key_index.specs.Calls.{isHeld}
 use Rattle.key_index.specs.declared.KeyIndex.{KeyIndex}
 use Rattle.key_index.proofs.Places.{at-held, nothing-held}
 use Rattle.key_store.specs.Store.{refused, putOf, admitOf}
-use Rattle.key_store.proofs.Answers.{answer-as, said, admit-held, admit-far, admit-put}
+use Rattle.key_store.proofs.Answers.{answer-as, admit-held, admit-far, admit-put}
 use borrow.Author.Needs.{needs}
 use Rattle.key_store.proofs.admitted.Statement.{statement}
 use Rattle.key_store.proofs.admitted.Tie as tie
@@ -65,7 +66,7 @@ returns : tie.Need-returns
 returns c =
     let a = c .before .before .before .before .before .before .before .args in
     answer-as (a .t1) (c .refused .result) (refused (only _)) (admitOf 240 (view (a .t1)) (a .key) (a .payload)) (c .refused .ensures)
-    (said _ 11 (admit-held 240 (view (a .t1)) (a .key) (a .payload) (at-held _ _ _ (sym (c .before .before .before .find .ensures) ∙ c .before .enum-told .given .1))) (search needs))
+    (due (λ (n : ℕ). refused (only n)) _ 11 (admit-held 240 (view (a .t1)) (a .key) (a .payload) (at-held _ _ _ (sym (c .before .before .before .find .ensures) ∙ c .before .enum-told .given .1))) (search needs))
 
 enum-told-2 : tie.Need-enum-told-2
 enum-told-2 c = search needs

@@ -8,6 +8,7 @@ use lib.ListN.{length, getD}
 use mir.Val.{Fits}
 use mir.Syntax.{w8}
 use borrow.Author.Tests.{leb-true}
+use Rattle.refusal.proofs.Due.{due}
 use Rattle.octets.specs.Bytes.{be}
 use Rattle.octets.proofs.Numbers.{bytes-all}
 use Rattle.rlp.specs.declared.Payload.{Payload}
@@ -21,7 +22,6 @@ use Rattle.key_store.specs.Move.{nearer}
 use Rattle.key_store.specs.Cases.{OfBytes}
 use Rattle.key_index.specs.Keys.{NineBytes}
 use Rattle.key_store.proofs.Nearer.{nearer-most}
-use Rattle.key_store.proofs.Answers.{handed}
 use Rattle.key_store.proofs.Putting.{same-place, room-answer, full-place, full-answer}
 use borrow.Author.Needs.{needs}
 use Rattle.key_store.proofs.put.Statement.{statement}
@@ -85,7 +85,7 @@ returns c =
     let p = c .before .before .nearer-keys in
     let e =
     room-answer (a .t1) (a .key) (a .payload) (of-bytes s) (nine s) (s .pre .1 .0) (p .result) (place s _ (p .ensures)) 240 (c .before .if1 .taken) (omega (arith, size s)) in (
-      handed (λ (q : Payload). now q (view (c .with-key .result))) _ (a .payload)
+      due (λ (q : Payload). now q (view (c .with-key .result))) _ (a .payload)
           (ap (λ (i : KeyIndex). now (a .payload) (view i)) (c .with-key .ensures) ∙ ap (givenBy (a .t1)) e) (search needs),
       ap evictedOr0 e,
     )
@@ -119,7 +119,7 @@ returns-2 c =
     let e =
     full-answer (a .t1) (a .key) (a .payload) (of-bytes s) (nine s) (s .pre .1 .0) (p .result) (place s _ (p .ensures)) 239 (s .pre .0) left (omega (arith, size s)) (within s)
     (last .result) (last .ensures) in (
-      handed (λ (q : Payload). without q (last .result) (view (c .with-key2 .result))) _ (a .payload)
+      due (λ (q : Payload). without q (last .result) (view (c .with-key2 .result))) _ (a .payload)
           (ap (λ (i : KeyIndex). without (a .payload) (last .result) (view i)) (same-place (a .t1) _ _ _ (p .result) _ _ (c .with-key2 .ensures) (omega arith)) ∙ ap (givenBy (a .t1)) e)
           (search needs),
       ap evictedOr0 e,

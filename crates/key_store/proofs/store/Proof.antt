@@ -5,12 +5,13 @@ use denote.Ref.{now}
 use borrow.Author.Tests.{not-true, not-false}
 use Rattle.refusal.specs.Says.{only}
 use Rattle.refusal.specs.Outcome.{given}
+use Rattle.refusal.proofs.Due.{due}
 use Rattle.refusal.proofs.Outcomes.{was-given, was-refused}
 use Rattle.content_key.specs.Key.{keyOf}
-use Rattle.rlp.proofs.Answers.{was-accepted, was-not}
+use Rattle.rlp.proofs.Answers.{found}
 use Rattle.key_index.specs.View.{view}
 use Rattle.key_index.specs.Good.{good}
-use Rattle.key_store.specs.Store.{refused, storeOf}
+use Rattle.key_store.specs.Store.{refused, admitOf, storeOf}
 use Rattle.key_store.proofs.Answers.{answer-as, store-bad, store-key, store-content, store-admit}
 use borrow.Author.Needs.{needs}
 use Rattle.key_store.proofs.store.Statement.{statement}
@@ -77,16 +78,20 @@ returns-3 c =
     let a = c .before .before .before .before .before .before .before .before .before .before .before .before .before .args in
     let v = view (a .index) in
     answer-as (a .index) (c .admitted .result) _ (storeOf 240 v (now (a .bytes)) (now (a .content))) (c .admitted .ensures)
-    (store-admit 240 v (now (a .bytes)) (now (a .content)) _ _ _ (kept (c .before .before .before .before .before .before .before .before .before)) (read (c .before .before .before .before .before .before))
-    (was-accepted _ (c .before .before .before .before .check .ensures) (c .before .before .examined .given .1)) (search needs))
+    (due (admitOf 240 v (c .before .before .before .before .before .before .before .before .key .result .key)) _ _
+    (store-admit 240 v (now (a .bytes)) (now (a .content)) _ _ (kept (c .before .before .before .before .before .before .before .before .before)) (read (c .before .before .before .before .before .before))
+    (found _ (c .before .before .before .before .check .ensures) (c .before .before .examined .given .1)))
+    (search needs))
 
 returns-4 : tie.Need-returns-4
 returns-4 c =
     let a = c .before .before .before .before .before .before .before .before .before .before .before .before .before .args in
     let v = view (a .index) in
     answer-as (a .index) (c .refused3 .result) _ (storeOf 240 v (now (a .bytes)) (now (a .content))) (c .refused3 .ensures)
-    (store-content 240 v (now (a .bytes)) (now (a .content)) _ _ _ (kept (c .before .before .before .before .before .before .before .before .before)) (read (c .before .before .before .before .before .before))
-    (was-not _ (c .before .before .before .before .check .ensures) (c .before .before .examined2 .given .1)) (search needs))
+    (due refused _ _
+    (store-content 240 v (now (a .bytes)) (now (a .content)) _ _ (kept (c .before .before .before .before .before .before .before .before .before)) (read (c .before .before .before .before .before .before))
+    (found _ (c .before .before .before .before .check .ensures) (c .before .before .examined2 .given .1)))
+    (search needs))
 
 pub store-spec : {M : Type 1} → statement M
 store-spec =

@@ -1,10 +1,13 @@
 -- `rlp::check` meets its contract: each arm is the case of `contentBy` that the header leads to; a whole header lies in the content. Assumes
 -- nothing.
+use Prim.Native.Nat.{ℕ}
 use mathlib.Core.Path.{sym, _∙_}
 use denote.Ref.{now}
 use borrow.Author.Needs.{needs}
+use Rattle.refusal.specs.Outcome.{refused}
+use Rattle.refusal.proofs.Due.{due}
 use Rattle.rlp.specs.declared.Header.the-variants.{Wrong, Cut, Whole}
-use Rattle.rlp.proofs.Cases.{said-as, content-by}
+use Rattle.rlp.proofs.Cases.{content-by}
 use Rattle.rlp.proofs.Headers.{header-within}
 use Rattle.rlp.proofs.check.Statement.{statement}
 use Rattle.rlp.proofs.check.Tie as tie
@@ -31,14 +34,14 @@ filling-requires c κs = search needs
 
 returns : tie.Need-returns
 returns c =
-    said-as _ 9
-    (content-by (now (c .before .before .before .before .args .content)) Wrong (sym (c .before .before .header-in .ensures) ∙ c .enum-told .given .1))
+    due (λ (n : ℕ). refused n) _ 9
+    (sym (content-by (now (c .before .before .before .before .args .content)) Wrong (sym (c .before .before .header-in .ensures) ∙ c .enum-told .given .1)))
     (search needs)
 
 returns-2 : tie.Need-returns-2
 returns-2 c =
-    said-as _ 16
-    (content-by (now (c .before .before .before .before .args .content)) Cut (sym (c .before .before .header-in .ensures) ∙ c .enum-told2 .given .1))
+    due (λ (n : ℕ). refused n) _ 16
+    (sym (content-by (now (c .before .before .before .before .args .content)) Cut (sym (c .before .before .header-in .ensures) ∙ c .enum-told2 .given .1)))
     (search needs)
 
 returns-3 : tie.Need-returns-3

@@ -1,25 +1,27 @@
 -- `rlp::header_in` meets its contract. Each return is the case of `headerIn` that its tests lead to; a byte is below 256, so there are at
 -- most eight length bytes. Assumes nothing.
 use Prim.Native.Nat.{_-_}
-use mathlib.Core.Path.{_∙_, sym, ap}
+use mathlib.Core.Path.{_∙_, sym, ap, ap₂}
 use native.Mathlib.Omega.{arith}
 use borrow.Author.Needs.{needs}
 use lib.ListN.{length, getD, drop, length-drop}
 use lib.Seq.{take-all}
-use Rattle.rlp.specs.Content.{longHeader}
-use Rattle.rlp.specs.declared.Header.the-variants.{Wrong}
-use Rattle.rlp.proofs.Cases.{header-as, place-as, first-none, first-low, first-short, first-long}
+use Rattle.refusal.proofs.Due.{due}
+use Rattle.rlp.specs.Content.{place, longHeader}
+use Rattle.rlp.specs.declared.Header.{Header}
+use Rattle.rlp.specs.declared.Header.the-variants.{Wrong, Whole}
+use Rattle.rlp.proofs.Cases.{first-none, first-low, first-short, first-long}
 use Rattle.rlp.proofs.header_in.Statement.{statement}
 use Rattle.rlp.proofs.header_in.Tie as tie
 
 returns : tie.Need-returns
-returns c = header-as _ Wrong (first-none (c .before .before .args .content .now) (search needs)) (search needs)
+returns c = due (λ (h : Header). h) _ Wrong (sym (first-none (c .before .before .args .content .now) (search needs))) (search needs)
 
 shared-slice-read-first : tie.Need-shared-slice-read-first
 shared-slice-read-first c = search needs
 
 returns-2 : tie.Need-returns-2
-returns-2 c = header-as _ Wrong (first-low (c .before .before .before .before .args .content .now) (search needs)) (search needs)
+returns-2 c = due (λ (h : Header). h) _ Wrong (sym (first-low (c .before .before .before .before .args .content .now) (search needs))) (search needs)
 
 cast-t8 : tie.Need-cast-t8
 cast-t8 c = search needs
@@ -27,7 +29,7 @@ cast-t8 c = search needs
 returns-3 : tie.Need-returns-3
 returns-3 c =
     let s = c .before .before .before .before .before .args .content .now in
-    place-as _ _ 1 (getD s 0 0 - 192) (first-short s (search needs) (search needs)) (search needs) (search needs)
+    due Whole _ (place 1 (getD s 0 0 - 192)) (sym (first-short s (search needs) (search needs))) (ap₂ place (search needs) (search needs))
 
 sub-long-header : tie.Need-sub-long-header
 sub-long-header c = search needs

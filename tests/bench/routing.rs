@@ -16,6 +16,8 @@ struct Contact {
     radius: [u8; 32],
     address: [u8; 4],
     port: u16,
+    len: usize,
+    enr: [u8; 300],
 }
 
 #[derive(Clone, Copy)]
@@ -36,6 +38,7 @@ struct Table {
 #[derive(Debug)]
 enum Refusal {
     BadTable,
+    ItemRule,
     OwnId,
     TableFull,
     ReplacementsFull,
@@ -66,7 +69,7 @@ fn count(logs: &[u16], d: u16) -> usize {
 
 impl Table {
     fn fresh(own: Id) -> Table {
-        let contact = Contact { id: [0; 32], radius: [0; 32], address: [0; 4], port: 0 };
+        let contact = Contact { id: [0; 32], radius: [0; 32], address: [0; 4], port: 0, len: 0, enr: [0; 300] };
         Table { own, count: 0, entries: [Entry { contact, failures: 0 }; 128], waiting: 0, replacements: [contact; 16] }
     }
 
@@ -74,7 +77,8 @@ impl Table {
     fn logs(&self) -> Option<([u16; 128], [u16; 16])> {
         let entries = self.entries.get(..self.count)?;
         let replacements = self.replacements.get(..self.waiting)?;
-        if entries.iter().any(|e| e.failures > 3) {
+        let sized = |c: &Contact| (1..=300).contains(&c.len);
+        if entries.iter().any(|e| e.failures > 3 || !sized(&e.contact)) || !replacements.iter().all(sized) {
             return None;
         }
         let mut ids = [&self.own; 145];
@@ -100,6 +104,9 @@ impl Table {
 
     fn seen(&mut self, contact: Contact) -> Result<Standing, Refusal> {
         let (near, wait) = self.logs().ok_or(Refusal::BadTable)?;
+        if !(1..=300).contains(&contact.len) {
+            return Err(Refusal::ItemRule);
+        }
         if contact.id == self.own {
             return Err(Refusal::OwnId);
         }
@@ -170,7 +177,7 @@ fn id(near: bool, class: u32, n: u32) -> Id {
 }
 
 fn contact(id: Id) -> Contact {
-    Contact { id, radius: [255; 32], address: [127, 0, 0, 1], port: 9009 }
+    Contact { id, radius: [255; 32], address: [127, 0, 0, 1], port: 9009, len: 300, enr: [170; 300] }
 }
 
 fn full_table(near: bool) -> Table {

@@ -3,6 +3,7 @@ from content_cases import content_edges, contents
 from history import digits, distance, key_id, make_key
 from index_cases import index_lines
 from message_cases import all_messages, write_lines
+from reply_cases import first_replies, reply_lines
 from routing_cases import routing_lines
 from snapshot_cases import snapshot_lines
 from stream import Stream
@@ -50,7 +51,8 @@ def console_input():
     lines = id_lines(stream) + distance_lines(stream) + class_lines() + asked_lines() + interest_lines(stream)
     lines += [b'content ' + (c.hex().encode() or b'-') for c in contents(stream) + content_edges()]
     lines += [b'read ' + (m.hex().encode() or b'-') for m in all_messages(stream)]
-    return b'\n'.join(lines + write_lines(stream) + index_lines(stream) + snapshot_lines(stream) + routing_lines() + no_calls(stream)) + b'\n'
+    lines += write_lines(stream) + first_replies() + index_lines(stream) + snapshot_lines(stream) + routing_lines() + reply_lines()
+    return b'\n'.join(lines + no_calls(stream)) + b'\n'
 
 
 def id_lines(stream):

@@ -3,10 +3,13 @@ import messages
 import rlp
 from index import Index, load
 from history import Refused, asked, digits, distance, interested, key_id, log_distance, unhex
+from replies import NO_CONNECTION, reply
 from routing import FLAG, Contact, Table
 
 LONGEST = 65536
 MOST_WORDS = 40
+# how many bytes can be lent to replies
+LENT_RECORD, LENT_CONTENT = 512, 2048
 
 
 class NoCall(Exception):
@@ -19,6 +22,14 @@ def data(word):
         return b''
     found = unhex(word)
     if not word or found is None:
+        raise NoCall
+    return found
+
+
+def at_most(word, most):
+    """The bytes of a word, if there are no more than these."""
+    found = data(word)
+    if len(found) > most:
         raise NoCall
     return found
 
@@ -93,6 +104,7 @@ MESSAGE_WORDS = [
 class Console:
     def __init__(self):
         self.index, self.room, self.neighbours = Index(0, 2**256 - 1), LONGEST, Table(0)
+        self.record, self.connection, self.lent = b'', NO_CONNECTION, b''
 
     def id(self, key):
         return 'id ' + digits(key_id(data(key)))
@@ -159,8 +171,8 @@ class Console:
         self.neighbours = Table(value(own))
         return 'ok'
 
-    def seen(self, node, radius, address, port):
-        return self.neighbours.seen(Contact(value(node), value(radius), four(address), number(port, 65535)))
+    def seen(self, node, radius, address, port, record):
+        return self.neighbours.seen(Contact(value(node), value(radius), four(address), number(port, 65535), data(record)))
 
     def failed(self, node):
         count, by = self.neighbours.failed(value(node))
@@ -180,7 +192,20 @@ class Console:
             return 'absent'
         contact, failures = found
         fields = '%s %s %d' % (digits(contact.radius), contact.address.hex(), contact.port)
-        return 'waiting ' + fields if failures is None else 'row %s %d' % (fields, failures)
+        stands = 'waiting ' + fields if failures is None else 'row %s %d' % (fields, failures)
+        return stands + ' ' + contact.record.hex()
+
+    def own(self, record):
+        self.record = at_most(record, LENT_RECORD)
+        return 'ok'
+
+    def lend(self, connection, content):
+        self.connection, self.lent = four(connection), at_most(content, LENT_CONTENT)
+        return 'ok'
+
+    def reply(self, message):
+        sent = reply(self.index, self.neighbours, self.record, self.lent, self.connection, data(message), self.room)
+        return ' '.join(['reply'] + [m.hex() for m in sent])
 
     def help(self):
         named = []
@@ -207,11 +232,14 @@ class Console:
         b'save': (save, ''),
         b'load': (load, 'TEXT'),
         b'table': (table, 'OWN'),
-        b'seen': (seen, 'ID RADIUS IP PORT'),
+        b'seen': (seen, 'ID RADIUS IP PORT RECORD'),
         b'failed': (failed, 'ID'),
         b'rows': (rows, ''),
         b'waiting': (waiting, ''),
         b'entry': (entry, 'ID'),
+        b'own': (own, 'RECORD'),
+        b'lend': (lend, 'CONNECTION CONTENT'),
+        b'reply': (reply, 'MESSAGE'),
         b'help': (help, ''),
     }
 

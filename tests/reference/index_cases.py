@@ -84,8 +84,8 @@ def places():
 
 
 def random_run(stream, calls, pool, node, cap):
-    """Stores and removals of keys from a pool, small or large, with something wrong now and then."""
-    lines = [fresh(node, cap)]
+    """Stores and removals of keys from a pool, small or large, with something wrong now and then. The keys of a large index are shown every eighth time."""
+    lines, turns = [fresh(node, cap)], 0
     keys = [make_key(stream.below(2), stream.below(pool)) for _ in range(max(4, min(pool, 700)))]
     for _ in range(calls):
         key, dice = stream.pick(keys), stream.below(20)
@@ -94,7 +94,8 @@ def random_run(stream, calls, pool, node, cap):
         elif dice < 19:
             lines.append(remove(key))
         else:
-            lines += SHOW
+            lines += SHOW if pool < LIMIT or turns % 8 == 0 else ['radius']
+            turns += 1
     return lines + SHOW
 
 

@@ -4,11 +4,16 @@ from history import Refused, log_distance
 ENTRIES, ENTRIES_EACH = 128, 16
 REPLACEMENTS, REPLACEMENTS_EACH = 16, 4
 FLAG = 3
+LONGEST_RECORD = 300
 
 
 class Contact:
-    def __init__(self, node, radius, address, port):
-        self.node, self.radius, self.address, self.port = node, radius, address, port
+    def __init__(self, node, radius, address, port, record):
+        self.node, self.radius, self.address, self.port, self.record = node, radius, address, port, record
+
+
+def sized(record):
+    return 1 <= len(record) <= LONGEST_RECORD
 
 
 class Table:
@@ -25,6 +30,8 @@ class Table:
 
     def seen(self, contact):
         """`row` or `waiting`: where the node stands now."""
+        if not sized(contact.record):
+            raise Refused(6)
         if contact.node == self.own:
             raise Refused(20)
         if contact.node in self.failures:

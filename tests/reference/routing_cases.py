@@ -1,18 +1,20 @@
 """Calls on the routing table: both sides of every limit, each refusal, failures and replacements, and long random runs."""
 from history import digits
-from routing import ENTRIES, ENTRIES_EACH, FLAG, REPLACEMENTS_EACH
+from routing import ENTRIES, ENTRIES_EACH, FLAG, LONGEST_RECORD, REPLACEMENTS_EACH
 from stream import Stream
 
 ONES = 2**256 - 1
 SHOW = ['rows', 'waiting']
+# lengths of records: most are short, so that answers are, and one in a hundred is the longest
+SIZES = [1] * 40 + [2] * 30 + [3] * 20 + [8] * 9 + [LONGEST_RECORD]
 
 
 def table(own):
     return 'table ' + digits(own)
 
 
-def seen_as(node, radius, address, port):
-    return 'seen %s %s %s %d' % (digits(node), digits(radius), address.hex(), port)
+def seen_as(node, radius, address, port, record):
+    return 'seen %s %s %s %d %s' % (digits(node), digits(radius), address.hex(), port, record.hex() or '-')
 
 
 def failed(node):
@@ -28,6 +30,7 @@ class Ids:
 
     def __init__(self, stream, own):
         self.stream, self.own, self.used = stream, own, set()
+        self.records = Stream('records around ' + digits(own))
 
     def at(self, log):
         """An id of this log distance that was not yet used."""
@@ -41,9 +44,10 @@ class Ids:
     def some(self, log, count):
         return [self.at(log) for _ in range(count)]
 
-    def seen(self, node):
+    def seen(self, node, size=None):
         take = self.stream.take
-        return seen_as(node, int.from_bytes(take(32), 'big'), take(4), self.stream.below(65536))
+        size = self.records.pick(SIZES) if size is None else size
+        return seen_as(node, int.from_bytes(take(32), 'big'), take(4), self.stream.below(65536), self.records.take(size))
 
     def all_seen(self, nodes):
         return [self.seen(n) for n in nodes]
@@ -203,9 +207,44 @@ def fields(stream):
     nodes, made = ids.full(223, 2)
     lines += made
     for node in (nodes[0], nodes[7], nodes[16], nodes[17]):
-        for said in ((0, bytes(4), 0), (ONES, b'\xff' * 4, 65535), (ONES, bytes(4), 0), (1, b'\0\0\0\1', 1), (1 << 255, b'\x80\0\0\0', 32768), (1, b'\0\0\0\1', 256), (1, b'\x0a\0\0\x7f', 255)):
+        for said in (
+            (0, bytes(4), 0, b'\0'),
+            (ONES, b'\xff' * 4, 65535, b'\xff' * LONGEST_RECORD),
+            (ONES, bytes(4), 0, b'\xff'),
+            (1, b'\0\0\0\1', 1, b'\0\1'),
+            (1 << 255, b'\x80\0\0\0', 32768, b'\1\0'),
+            (1, b'\0\0\0\1', 256, b'\1' + bytes(31) + b'\1'),
+            (1, b'\x0a\0\0\x7f', 255, b'\1' * 2),
+        ):
             lines += [seen_as(node, *said), entry(node), entry(nodes[1])]
     lines += [failed(nodes[2])] * 3 + [entry(n) for n in nodes] + SHOW
+    return lines
+
+
+def records(stream):
+    """Records on both sides of each limit, of an entry, a replacement, a newcomer and our own id; longer and shorter ones by turns."""
+    ids, lines = start(stream)
+    nodes, made = ids.full(223, 2)
+    first, wait = nodes[3], nodes[ENTRIES_EACH]
+    lines += made
+    for node in (first, wait, ids.at(222), ids.at(223), ids.own):
+        for size in (0, LONGEST_RECORD + 1, LONGEST_RECORD + 2, 2 * LONGEST_RECORD, 512, 1000):
+            lines.append(ids.seen(node, size))
+        lines.append(entry(node))
+    for node in (first, wait):
+        for size in (LONGEST_RECORD, 1, LONGEST_RECORD - 1, 2, 256, 0, 255):
+            lines += [ids.seen(node, size), entry(node)]
+    # a record outlasts failures, and goes with a replacement that becomes an entry; the one that made way brings a new one
+    lines += [ids.seen(wait, 5), failed(first), entry(first), failed(first), failed(first), entry(first), entry(wait), ids.seen(first, 4), entry(first)]
+    lines += [ids.seen(wait, LONGEST_RECORD), failed(wait), failed(wait), ids.seen(wait, LONGEST_RECORD + 1), failed(wait), entry(first), entry(wait)] + SHOW
+    # with all entries used, and all replacements: 6 comes before 21 and 22
+    ids, made = start(stream)
+    for log in range(241, 249):
+        made += ids.full(log, 4 if log < 245 else 0)[1]
+    lines += made
+    for log in (201, 241, 245):
+        node = ids.at(log)
+        lines += [ids.seen(node, 0), ids.seen(node, 1), ids.seen(node, LONGEST_RECORD), ids.seen(node, LONGEST_RECORD + 1), 'waiting']
     return lines
 
 
@@ -226,15 +265,19 @@ def no_calls(stream):
     ids, lines = start(stream)
     node = ids.at(61)
     good = ids.seen(node)
-    name, one, radius, address, port = good.split()
+    name, one, radius, address, port, enr = good.split()
     lines += [good]
     for bad in ('', '-', '00', one[:-1], one[:-2], one + '0', one + '00', one.upper() + 'A', 'g' + one[1:], '0x' + one[2:]):
-        lines += ['table ' + bad, 'failed ' + bad, 'entry ' + bad, ' '.join([name, bad, radius, address, port]), ' '.join([name, one, bad, address, port])]
+        lines += ['table ' + bad, 'failed ' + bad, 'entry ' + bad, ' '.join([name, bad, radius, address, port, enr]), ' '.join([name, one, bad, address, port, enr])]
     for bad in ('', '-', '7f0000', '7f00000', '7f0000010', '7f00000100', '7F000001', '127.0.0.1', '7f00000g'):
-        lines.append(' '.join([name, one, radius, bad, port]))
+        lines.append(' '.join([name, one, radius, bad, port, enr]))
     for bad in ('', '-', '-1', '+1', '00', '01', '065535', '65536', '65537', '99999', '100000', '131071', '4294967296', '18446744073709551616', '1a', 'ffff', '1.0', '0x1'):
-        lines.append(' '.join([name, one, radius, address, bad]))
-    lines += ['table', 'table %s %s' % (one, one), 'seen', 'seen ' + one, good[: good.rindex(' ')], good + ' ', good + ' 00', 'failed', 'failed %s -' % one, 'entry', entry(node) + ' ', 'entry %s %s' % (one, one)]
+        lines.append(' '.join([name, one, radius, address, bad, enr]))
+    for bad in ('', '0', '000', '--', '-0', '0g', 'AB', '0x', 'ab' * LONGEST_RECORD + 'a', 'ab' * LONGEST_RECORD + 'ag', 'ab' * LONGEST_RECORD + 'A0'):
+        lines.append(' '.join([name, one, radius, address, port, bad]))
+    # a line that is no call is not refused
+    lines += [' '.join([name, one, radius, address, '65536', '-']), ' '.join([name, one, radius, '00', port, 'ab' * (LONGEST_RECORD + 1)])]
+    lines += ['table', 'table %s %s' % (one, one), 'seen', 'seen ' + one, good[: good.rindex(' ')], good + ' ', good + ' 00', good + ' -', 'failed', 'failed %s -' % one, 'entry', entry(node) + ' ', 'entry %s %s' % (one, one)]
     lines += ['rows -', 'rows ', 'rows 0', 'waiting ' + one, 'waiting ', 'Rows', 'row', 'wait', 'Seen' + good[4:], 'TABLE ' + one, 'tables', 'entries']
     return lines + [entry(node)] + SHOW
 
@@ -259,9 +302,9 @@ def random_run(stream, calls, logs, each):
 def routing_lines():
     stream = Stream('routing')
     # at first our own id is zero
-    lines = SHOW + [entry(0), seen_as(0, 1, bytes(4), 2), failed(0), failed(1), seen_as(1, 2, bytes(4), 3), entry(1)] + SHOW
+    lines = SHOW + [entry(0), seen_as(0, 1, bytes(4), 2, b'\0'), failed(0), failed(1), seen_as(1, 2, bytes(4), 3, b'\4'), entry(1)] + SHOW
     for part in (of_one_log, small_logs, all_waiting, all_entries, all_entries_thin, failures, in_a_row, flagged, most_recent, fields, anew, no_calls):
         lines += part(stream)
     lines += random_run(stream, 400, [256], 22) + random_run(stream, 700, [4, 5, 6], 8) + random_run(stream, 900, [253, 254], 24)
-    lines += random_run(stream, 1500, range(247, 255), 24) + random_run(stream, 1500, range(101, 112), 20)
+    lines += random_run(stream, 1500, range(247, 255), 24) + random_run(stream, 1500, range(101, 112), 20) + records(Stream('records'))
     return [line.encode() for line in lines]

@@ -2,7 +2,7 @@
 from collections import Counter
 
 from history import Refused, log_distance
-from routing import ENTRIES, ENTRIES_EACH, FLAG, REPLACEMENTS, REPLACEMENTS_EACH, Contact, Table
+from routing import ENTRIES, ENTRIES_EACH, FLAG, LONGEST_RECORD, REPLACEMENTS, REPLACEMENTS_EACH, Contact, Table
 
 OWN = int.from_bytes(bytes([90]) * 32, 'big')
 
@@ -13,10 +13,10 @@ def near(a, b):
 
 
 class Places:
-    """A table as it is handed in: ids with failures, ids of replacements, and counts that may lie."""
+    """A table as it is handed in: ids with failures, ids of replacements, counts that may lie, and the sizes of records that are told."""
 
-    def __init__(self, entries=(), replacements=(), count=None, waiting=None):
-        self.entries, self.replacements = list(entries), list(replacements)
+    def __init__(self, entries=(), replacements=(), count=None, waiting=None, sizes=()):
+        self.entries, self.replacements, self.sizes = list(entries), list(replacements), dict(sizes)
         self.count = len(self.entries) if count is None else count
         self.waiting = len(self.replacements) if waiting is None else waiting
 
@@ -27,7 +27,10 @@ class Places:
         return Places(self.entries, self.replacements + list(more))
 
     def counted(self, count, waiting):
-        return Places(self.entries, self.replacements, count, waiting)
+        return Places(self.entries, self.replacements, count, waiting, self.sizes)
+
+    def with_size(self, size, *nodes):
+        return Places(self.entries, self.replacements, self.count, self.waiting, {node: size for node in nodes})
 
     def broken(self):
         """The rules that document 02 gives a table."""
@@ -41,15 +44,16 @@ class Places:
             len(set(ids)) < len(ids)
             or OWN in ids
             or any(failures > FLAG for _, failures in entries)
+            or any(not 1 <= self.sizes.get(node, 1) <= LONGEST_RECORD for node in ids)
             or any(n > ENTRIES_EACH for n in rows.values())
             or any(n > REPLACEMENTS_EACH or rows[log] < ENTRIES_EACH for log, n in waiters.items())
         )
 
     def table(self):
         found = Table(OWN)
-        found.entries = [Contact(node, 1, b'', 0) for node, _ in self.entries[: self.count]]
+        found.entries = [Contact(node, 1, b'', 0, b'\1') for node, _ in self.entries[: self.count]]
         found.failures = dict(self.entries[: self.count])
-        found.replacements = [Contact(node, 1, b'', 0) for node in self.replacements[: self.waiting]]
+        found.replacements = [Contact(node, 1, b'', 0, b'\1') for node in self.replacements[: self.waiting]]
         return found
 
 
@@ -70,8 +74,8 @@ def lines(name, places):
             return 'zeros, failures 0, absent'
         return 'fields, failures %d, %s' % (contact[1] or 0, 'waiting' if contact[1] is None else 'row')
 
-    def seen(a, b):
-        return tell(lambda table: table.seen(Contact(near(a, b), 1, b'', 0)))
+    def seen(a, b, size=1):
+        return tell(lambda table: table.seen(Contact(near(a, b), 1, b'', 0, bytes(size))))
 
     def failed(a, b):
         return tell(lambda table: 'counted %d' % table.failed(near(a, b))[0])
@@ -82,6 +86,8 @@ def lines(name, places):
     yield '  seen a stranger: ' + seen(200, 200)
     yield '  seen a neighbour: ' + seen(0, 200)
     yield '  seen our own id: ' + seen(0, 0)
+    yield '  seen our own id with a record of the largest length: ' + seen(0, 0, LONGEST_RECORD + 1)
+    yield '  seen a newcomer with a record of no bytes: ' + seen(4, 200, 0)
     yield '  failed the first: ' + failed(1, 0)
     yield '  failed our own id: ' + failed(0, 0)
     yield '  failed a stranger: ' + failed(200, 200)
@@ -93,6 +99,18 @@ def rows(a, n):
 
 def waiters(a, n):
     return [near(a, b) for b in range(16, n)]
+
+
+def one_more(some, size):
+    """An entry and a replacement more, with records of this size."""
+    entry, replacement = near(4, 1), near(2, 17)
+    return some.with_entries((entry, 0)).with_replacements(replacement).with_size(size, entry, replacement)
+
+
+def records(some):
+    for size, said in ((1, 'of 1 byte'), (300, 'of 300 bytes'), (0, 'of no bytes'), (301, 'of 301 bytes'), (2**64 - 1, 'of the largest length')):
+        yield 'an entry with a record ' + said, some.with_entries((near(4, 1), 0)).with_size(size, near(4, 1))
+        yield 'a replacement with a record ' + said, some.with_replacements(near(2, 17)).with_size(size, near(2, 17))
 
 
 def output():
@@ -124,9 +142,14 @@ def output():
         ('4 failures', some.with_entries((near(4, 1), 4))),
         ('255 failures', some.with_entries((near(4, 1), 255))),
         ('4 failures of the first entry', none.with_entries((near(4, 1), 4), (near(1, 0), 0))),
+        *records(some),
+        ('a record of no bytes in the first entry', none.with_entries((near(4, 1), 0), (near(1, 0), 0)).with_size(0, near(4, 1))),
+        ('a record of no bytes in the first replacement', full.with_replacements(near(1, 16), near(1, 17)).with_size(0, near(1, 16))),
         ('unused: the ids of an entry and of a replacement', some.with_entries((near(1, 0), 0)).with_replacements(near(1, 16)).counted(33, 5)),
         ('unused: our own id', some.with_entries((OWN, 0)).with_replacements(OWN).counted(33, 5)),
         ('unused: 255 failures', some.with_entries((near(4, 1), 255)).counted(33, 5)),
+        ('unused: records of no bytes', one_more(some, 0).counted(33, 5)),
+        ('unused: records of the largest length', one_more(some, largest).counted(33, 5)),
         ('unused: a 17th entry and a 5th replacement of one log distance', some.with_entries((near(1, 20), 0)).with_replacements(near(1, 21)).counted(33, 5)),
         ('unused: 128 entries and 16 replacements', most.counted(0, 0)),
     ]

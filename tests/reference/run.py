@@ -11,6 +11,7 @@ import cases
 import console
 import index_edges
 import lister
+import reply_edges
 import routing_edges
 import write_edges
 
@@ -28,6 +29,7 @@ def stored():
     yield CRATES / 'index_edges' / 'stdout', index_edges.output()
     yield CRATES / 'write_edges' / 'stdout', write_edges.output()
     yield CRATES / 'routing_edges' / 'stdout', routing_edges.output()
+    yield CRATES / 'reply_edges' / 'stdout', reply_edges.output()
 
 
 def main():

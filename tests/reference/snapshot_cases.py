@@ -58,9 +58,10 @@ def caps(stream):
 
 
 def random_run(stream, calls):
+    """Stores, removals and loads; the index is saved every third time that it might be."""
     keys = [make_key(stream.below(2), stream.below(2**64)) for _ in range(300)]
     texts = [filled(stream, size).save() for size in (0, 1, 5, LIMIT - 1, LIMIT)]
-    lines = [fresh(int.from_bytes(stream.take(32), 'big'), ONES)]
+    lines, turns = [fresh(int.from_bytes(stream.take(32), 'big'), ONES)], 0
     for _ in range(calls):
         dice = stream.below(40)
         if dice < 26:
@@ -76,7 +77,8 @@ def random_run(stream, calls):
             text = stream.pick(texts)
             lines += [load(text[: stream.below(len(text))]), 'radius']
         else:
-            lines.append('save')
+            lines += ['save'] if turns % 3 == 0 else []
+            turns += 1
     return lines + ['save', 'keys']
 
 

@@ -1,5 +1,6 @@
 // The calls that a line can make, by its first word.
 use crate::help;
+use console_replies::Lent;
 use console_text::answer;
 use console_text::words;
 use console_text::words::Words;
@@ -28,15 +29,19 @@ enum Call {
     Rows,
     Waiting,
     Entry,
+    Own,
+    Lend,
+    Reply,
     Help,
     None,
 }
 
-// What the console holds from line to line: the index, the routing table, and the length of the buffer that is lent to calls that
-// write.
+// What the console holds from line to line: the index, the routing table, what is lent to replies, and the length of the buffer that is
+// lent to calls that write.
 pub struct State {
     pub index: KeyIndex,
     pub table: RoutingTable,
+    pub lent: Lent,
     pub room: usize,
 }
 
@@ -46,11 +51,12 @@ pub struct Answered {
     pub len: usize,
 }
 
-// At first, a fresh index of node id zero and a cap of all ones, a fresh table of own id zero, and the whole buffer.
+// At first, a fresh index of node id zero and a cap of all ones, a fresh table of own id zero, nothing for replies, and the whole buffer.
 pub fn start() -> State {
     State {
         index: key_index::fresh([0u8; 32], [255u8; 32]),
         table: routing_table::fresh([0u8; 32]),
+        lent: console_replies::nothing(),
         room: 65536,
     }
 }
@@ -83,17 +89,47 @@ pub fn answer(
             let len = console_messages::write(line, words, state.room, data, spare, out);
             Answered { state, len }
         }
+        Call::Reply => {
+            let len = replied(state, line, words, data, spare, out);
+            Answered { state, len }
+        }
         _ => routed(call, state, line, words, data, out),
     }
 }
 
-// The state with the index of a reply.
+fn replied(
+    state: State,
+    line: &[u8],
+    words: Words,
+    data: &mut [u8],
+    spare: &mut [u8],
+    out: &mut [u8],
+) -> usize {
+    let index = state.index;
+    let table = state.table;
+    let lent = state.lent;
+    console_replies::reply(
+        index,
+        table,
+        lent,
+        line,
+        words,
+        state.room,
+        data,
+        spare,
+        out,
+    )
+}
+
+// The state with the index of an answer.
 fn held(state: State, reply: console_index::Reply) -> Answered {
     let index = reply.index;
     let table = state.table;
+    let lent = state.lent;
     let next = State {
         index,
         table,
+        lent,
         room: state.room,
     };
     Answered {
@@ -102,7 +138,7 @@ fn held(state: State, reply: console_index::Reply) -> Answered {
     }
 }
 
-// The calls that change the routing table, and those that change nothing.
+// The calls that change the routing table or what is lent to replies, and those that change nothing.
 fn routed(
     call: Call,
     state: State,
@@ -112,6 +148,7 @@ fn routed(
     out: &mut [u8],
 ) -> Answered {
     let table = state.table;
+    let lent = state.lent;
     match call {
         Call::Table => met(state, console_routing::table(table, line, words, out)),
         Call::Seen => met(state, console_routing::seen(table, line, words, out)),
@@ -128,6 +165,8 @@ fn routed(
             let len = console_routing::entry(table, line, words, out);
             Answered { state, len }
         }
+        Call::Own => lending(state, console_replies::own(lent, line, words, out)),
+        Call::Lend => lending(state, console_replies::lend(lent, line, words, out)),
         _ => {
             let len = unchanged(call, state.index, line, words, data, out);
             Answered { state, len }
@@ -135,18 +174,37 @@ fn routed(
     }
 }
 
-// The state with the routing table of a reply.
+// The state with the routing table of an answer.
 fn met(state: State, reply: console_routing::Reply) -> Answered {
     let index = state.index;
     let table = reply.table;
+    let lent = state.lent;
     let next = State {
         index,
         table,
+        lent,
         room: state.room,
     };
     Answered {
         state: next,
         len: reply.len,
+    }
+}
+
+// The state with what is lent to replies from now on.
+fn lending(state: State, lending: console_replies::Lending) -> Answered {
+    let index = state.index;
+    let table = state.table;
+    let lent = lending.lent;
+    let next = State {
+        index,
+        table,
+        lent,
+        room: state.room,
+    };
+    Answered {
+        state: next,
+        len: lending.len,
     }
 }
 
@@ -261,6 +319,19 @@ fn table_call(name: &[u8]) -> Call {
     }
     if check::same(name, b"entry") {
         return Call::Entry;
+    }
+    reply_call(name)
+}
+
+fn reply_call(name: &[u8]) -> Call {
+    if check::same(name, b"own") {
+        return Call::Own;
+    }
+    if check::same(name, b"lend") {
+        return Call::Lend;
+    }
+    if check::same(name, b"reply") {
+        return Call::Reply;
     }
     Call::None
 }

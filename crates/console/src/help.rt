@@ -12,30 +12,40 @@ pub fn help(words: Words, out: &mut [u8]) -> usize {
         0,
         b"help: id KEY; distance A B; interested NODE RADIUS KEY; asked DISTANCES CLASS; content BYTES; ",
     );
-    let writing = answer::text(
-        out,
-        keys,
-        b"read MESSAGE; write ping RADIUS, write pong RADIUS, write findnode DISTANCES, ",
-    );
-    let found = answer::text(
-        out,
-        writing,
-        b"write foundnodes TOTAL RECORD .., write findcontent KEY, write foundcontent CONNECTION CONTENT RECORD .., ",
-    );
-    let rest = answer::text(
-        out,
-        found,
-        b"write offer KEY, write accept KEY, write store CONNECTION CONTENT; buffer N; ",
-    );
+    let messages = message_calls(out, keys);
     let index = answer::text(
         out,
-        rest,
+        messages,
         b"fresh NODE CAP; store KEY CONTENT; remove KEY; radius; keys; save; load TEXT; ",
     );
     let table = answer::text(
         out,
         index,
-        b"table OWN; seen ID RADIUS IP PORT; failed ID; rows; waiting; entry ID; help",
+        b"table OWN; seen ID RADIUS IP PORT RECORD; failed ID; rows; waiting; entry ID; ",
     );
-    answer::end(out, table)
+    let last = answer::text(
+        out,
+        table,
+        b"own RECORD; lend CONNECTION CONTENT; reply MESSAGE; help",
+    );
+    answer::end(out, last)
+}
+
+// The calls that read and write messages.
+fn message_calls(out: &mut [u8], from: usize) -> usize {
+    let short = answer::text(
+        out,
+        from,
+        b"read MESSAGE; write ping RADIUS, write pong RADIUS, write findnode DISTANCES, ",
+    );
+    let found = answer::text(
+        out,
+        short,
+        b"write foundnodes TOTAL RECORD .., write findcontent KEY, write foundcontent CONNECTION CONTENT RECORD .., ",
+    );
+    answer::text(
+        out,
+        found,
+        b"write offer KEY, write accept KEY, write store CONNECTION CONTENT; buffer N; ",
+    )
 }

@@ -1,5 +1,6 @@
 // Every call of the libraries from a line of text: reads lines, and answers one line for each.
 ghost use Prim.Native.Nat.{_≤_, _<_};
+ghost use mathlib.Core.Path.{_≡_};
 ghost use lib.ListN.{length};
 
 mod calls;
@@ -42,13 +43,20 @@ fn main() {
     let mut line = io::large_buffer();
     let mut data = io::large_buffer();
     let mut spare = io::large_buffer();
-    let mut out = io::large_buffer();
+    let mut out = answer_buffer();
     let kept = read_lines(&mut input, &mut line, &mut data, &mut spare, &mut out);
     let held = kept.held;
     if held.long || held.len > 0 {
         let state = kept.state;
         answer_line(state, held, &line, &mut data, &mut spare, &mut out);
     }
+}
+
+// 131,072 zeros: the line of a reply may be longer than one that is read.
+fn answer_buffer() -> [u8; 131072]
+    ensures { λ r. ⌜ 131072 ≡ length r ⌝ }
+{
+    [0; 131072]
 }
 
 // Answers every line that ends, and hands back the one that the input leaves unended. Nothing says that an input ends, so the

@@ -4,6 +4,7 @@
 use console_text::answer;
 use console_text::words;
 use console_text::words::Words;
+use hex::Decoded;
 use routing_calls::FailedAnswer;
 use routing_calls::Failure;
 use routing_calls::Standing;
@@ -11,6 +12,7 @@ use routing_table::Contact;
 use routing_table::ENTRIES;
 use routing_table::FindAnswer;
 use routing_table::Found;
+use routing_table::RECORD;
 use routing_table::REPLACEMENTS;
 use routing_table::RoutingTable;
 
@@ -37,10 +39,10 @@ pub fn table(table: RoutingTable, line: &[u8], words: Words, out: &mut [u8]) -> 
     Reply { table: made, len }
 }
 
-// seen ID RADIUS IP PORT
+// seen ID RADIUS IP PORT RECORD
 pub fn seen(table: RoutingTable, line: &[u8], words: Words, out: &mut [u8]) -> Reply {
     let sighting = sighting_of(line, words);
-    if words.count != 5 || !sighting.good {
+    if words.count != 6 || !sighting.good {
         return no_call(table, out);
     }
     let contact = sighting.contact;
@@ -63,13 +65,45 @@ fn sighting_of(line: &[u8], words: Words) -> Sighting {
     let address = words::four(words::word(line, words, 3));
     let port = words::number(words::word(line, words, 4));
     let value = port.value;
+    let enr = record_of(words::word(line, words, 5));
     Sighting {
-        good: id.good && radius.good && address.good && port.good && value < 65536,
+        good: id.good && radius.good && address.good && port.good && value < 65536 && enr.good,
         contact: Contact {
             id: id.bytes,
             radius: radius.bytes,
             address: address.bytes,
             port: (value % 65536) as u16,
+            len: enr.len,
+            enr: enr.bytes,
+        },
+    }
+}
+
+// A node record, if the word is one of any length. The bytes of one of more than 300 are left out.
+struct NodeRecord {
+    good: bool,
+    len: usize,
+    bytes: [u8; RECORD],
+}
+
+fn record_of(word: &[u8]) -> NodeRecord {
+    let mut bytes = [0u8; RECORD];
+    let decoded = words::bytes(word, &mut bytes);
+    match decoded {
+        Decoded::Bytes(len) => NodeRecord {
+            good: true,
+            len,
+            bytes,
+        },
+        Decoded::NoRoom => NodeRecord {
+            good: true,
+            len: word.len() / 2,
+            bytes,
+        },
+        Decoded::NotHex => NodeRecord {
+            good: false,
+            len: 0,
+            bytes,
         },
     }
 }
@@ -185,13 +219,13 @@ fn looked_up(answer: FindAnswer, out: &mut [u8]) -> usize {
             let said = answer::text(out, 0, b"row ");
             let at = fields(contact, out, said);
             let space = answer::text(out, at, b" ");
-            let last = answer::decimal(out, space, answer.failures as u64);
-            answer::end(out, last)
+            let count = answer::decimal(out, space, answer.failures as u64);
+            record_end(contact, out, count)
         }
         Found::Replacement => {
             let said = answer::text(out, 0, b"waiting ");
-            let last = fields(contact, out, said);
-            answer::end(out, last)
+            let at = fields(contact, out, said);
+            record_end(contact, out, at)
         }
         Found::Absent => answer::text(out, 0, b"absent\n"),
         Found::Refused(why) => answer::refused(out, why),
@@ -207,4 +241,12 @@ fn fields(contact: Contact, out: &mut [u8], from: usize) -> usize {
     let place = answer::digits(out, first, &address);
     let second = answer::text(out, place, b" ");
     answer::decimal(out, second, contact.port as u64)
+}
+
+// The record after a space, and the end of the line.
+fn record_end(contact: Contact, out: &mut [u8], from: usize) -> usize {
+    let enr = contact.enr;
+    let at = answer::text(out, from, b" ");
+    let last = answer::digits(out, at, words::front(&enr, contact.len));
+    answer::end(out, last)
 }

@@ -4,3 +4,4 @@ pub mod Numbers
 pub mod Order
 pub mod Pairs
 pub mod Parts
+pub mod Flags

@@ -2,7 +2,7 @@
 -- nothing else.
 use Prim.Native.Nat.{ℕ}
 use Rattle.refusal.specs.declared.Refusal.{Refusal}
-use Rattle.refusal.specs.declared.Refusal.the-variants.{BadState, EmptyMessage, LongMessage, MessageType, Layout, TooManyItems, ItemRule, KeyLength, KeySelector, Content, BeyondRadius, AlreadyHeld, NotHeld, ShortBuffer, BadSnapshot, NotHex, ContentEndsEarly, OwnId, TableFull, ReplacementsFull, NoEntry}
+use Rattle.refusal.specs.declared.Refusal.the-variants.{BadState, EmptyMessage, LongMessage, MessageType, Layout, TooManyItems, ItemRule, KeyLength, KeySelector, Content, BeyondRadius, AlreadyHeld, NotHeld, ShortBuffer, BadSnapshot, NotHex, ContentEndsEarly, OwnId, TableFull, ReplacementsFull, Unusable, NoEntry}
 
 pub data Said : Type 0 where
   only : (number : ℕ) → Said
@@ -29,6 +29,7 @@ saysOf ContentEndsEarly = only 16
 saysOf OwnId = only 20
 saysOf TableFull = only 21
 saysOf ReplacementsFull = only 22
+saysOf Unusable = only 23
 saysOf NoEntry = only 29
 
 -- the number, without a line

@@ -2,7 +2,7 @@
 ghost use mathlib.Core.Path.{_≡_};
 ghost use Rattle.refusal.specs.Says.{numberOf};
 
-// Why a call is refused, in the order of the numbers: 0 to 16, 20 to 22, 29.
+// Why a call is refused, in the order of the numbers: 0 to 16, 20 to 23, 29.
 pub enum Refusal {
     // The index or the routing table handed in breaks its rules.
     BadState,
@@ -16,7 +16,7 @@ pub enum Refusal {
     Layout,
     // More than 256 distances or 32 records.
     TooManyItems,
-    // Another rule on a message's items is broken.
+    // Another rule on a message's items is broken; or the record of a sighting has not 1 to 300 bytes.
     ItemRule,
     // The key does not have nine bytes.
     KeyLength,
@@ -44,6 +44,8 @@ pub enum Refusal {
     TableFull,
     // A newcomer to a full log distance, but all replacements are of other log distances.
     ReplacementsFull,
+    // Our own record or the connection id is needed for a reply and is not usable.
+    Unusable,
     // The id that failed has no entry.
     NoEntry,
 }
@@ -85,6 +87,7 @@ pub fn number(why: Refusal) -> u8
         Refusal::OwnId => 20,
         Refusal::TableFull => 21,
         Refusal::ReplacementsFull => 22,
+        Refusal::Unusable => 23,
         Refusal::NoEntry => 29,
     }
 }

@@ -1,6 +1,7 @@
 // A door for benches in other languages: sightings and failures on a full table with all its replacements, many times over.
 ghost use Prim.Native.Nat.{_≤_};
 use routing_table::Contact;
+use routing_table::RECORD;
 use routing_table::RoutingTable;
 
 // Sightings of newcomers, each of which takes the place of the longest unseen replacement of its log distance. Answers a sum of what
@@ -83,6 +84,8 @@ fn contact(id: [u8; 32]) -> Contact {
         radius: [255u8; 32],
         address: [127, 0, 0, 1],
         port: 9009,
+        len: RECORD,
+        enr: [170u8; RECORD],
     }
 }
 

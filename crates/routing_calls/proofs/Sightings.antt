@@ -11,7 +11,7 @@ use Rattle.octets.specs.Equal.{sameBytes, holds}
 use Rattle.distance.specs.Distance.{logDistanceOf}
 use Rattle.routing_table.specs.View.{view, entryIds, replacementIds, entryLogs, replacementLogs}
 use Rattle.routing_table.specs.Places.{firstPlace, countOf}
-use Rattle.routing_table.specs.Good.{good}
+use Rattle.routing_table.specs.Good.{sized, good}
 use Rattle.routing_table.specs.declared.Contact.{Contact}
 use Rattle.routing_table.specs.declared.RoutingTable.{RoutingTable}
 use Rattle.routing_calls.specs.Change.{entryOf, withEntries}
@@ -45,27 +45,32 @@ module _ (t : RoutingTable) (c : Contact) (n : ℕ) where
   unfolding seenOf
   sight-bad s g = rw g (said t s)
 
-  -- our own id
-  pub sight-own : n ≡ 20 → good (view t) ≡ true → sameBytes (t .own) (c .id) ≡ true → back (only n) t ≡ seenFor t c
+  -- a record that does not fit
+  pub sight-record : n ≡ 6 → good (view t) ≡ true → sized c ≡ false → back (only n) t ≡ seenFor t c
   unfolding seenOf
-  sight-own s g h = rw (g, h) (said t s)
+  sight-record s g f = rw (g, f) (said t s)
 
--- a good table, and an id that is not ours
-module _ (t : RoutingTable) (c : Contact) (g : good (view t) ≡ true) (other : sameBytes (t .own) (c .id) ≡ false) where
+  -- our own id
+  pub sight-own : n ≡ 20 → good (view t) ≡ true → sized c ≡ true → sameBytes (t .own) (c .id) ≡ true → back (only n) t ≡ seenFor t c
+  unfolding seenOf
+  sight-own s g f h = rw (g, f, h) (said t s)
+
+-- a good table, a record that fits, and an id that is not ours
+module _ (t : RoutingTable) (c : Contact) (g : good (view t) ≡ true) (f : sized c ≡ true) (other : sameBytes (t .own) (c .id) ≡ false) where
   -- an entry with this id
   pub sight-entry : Sized t → (at n : ℕ) (u : RoutingTable) → Put t at (record { contact = c; failures = n }) u → n ≡ 0
       → at ≡ firstPlace sameBytes (c .id) (entryIds (view t)) → at < t .count → asEntry (view u) ≡ seenFor t c
   unfolding seenOf meetOf
   sight-entry z at n u p none e h =
       let held = first-held sameBytes (c .id) (entryIds (view t)) (t .count) at (entry-ids t) e h in
-      rw (g, other, held)
+      rw (g, f, other, held)
       (ap (λ (x : RoutingTable). asEntry (view x)) (p .is)
       ∙ ap (λ (k : ℕ). asEntry (view (entryPut t at (record { contact = c; failures = k })))) none
       ∙ ap asEntry (view-put t z at (entryOf c) h (good-count t g))
       ∙ ap (λ (i : ℕ). asEntry (withEntries (view t) (set (view t .entries) i (entryOf c)))) e)
 
   module _ (here : ℕ) (e : here ≡ firstPlace sameBytes (c .id) (entryIds (view t))) (none : t .count ≤ here)
-      (at : ℕ) (f : at ≡ firstPlace sameBytes (c .id) (replacementIds (view t))) where
+      (at : ℕ) (q : at ≡ firstPlace sameBytes (c .id) (replacementIds (view t))) where
     no-entry : holds sameBytes (c .id) (entryIds (view t)) ≡ false
     no-entry = first-none sameBytes (c .id) (entryIds (view t)) (t .count) here (entry-ids t) e none
 
@@ -73,15 +78,15 @@ module _ (t : RoutingTable) (c : Contact) (g : good (view t) ≡ true) (other : 
     pub sight-replacement : (r : SeenAnswer) → Latest t at c r → at < t .waiting → meaningOf r ≡ seenFor t c
     unfolding seenOf meetOf
     sight-replacement r l h =
-        let held = first-held sameBytes (c .id) (replacementIds (view t)) (t .waiting) at (replacement-ids t) f h in
-        rw (g, other, no-entry, held) (l .is ∙ ap (λ (i : ℕ). givenBy t (latestFor (view t) i c)) f)
+        let held = first-held sameBytes (c .id) (replacementIds (view t)) (t .waiting) at (replacement-ids t) q h in
+        rw (g, f, other, no-entry, held) (l .is ∙ ap (λ (i : ℕ). givenBy t (latestFor (view t) i c)) q)
 
     -- a newcomer
     pub sight-newcomer : (r : SeenAnswer) → meaningOf r ≡ givenBy t (newcomerOf (view t) c (logFor t c)) → t .waiting ≤ at → meaningOf r ≡ seenFor t c
     unfolding seenOf meetOf
     sight-newcomer r l h =
-        let absent = first-none sameBytes (c .id) (replacementIds (view t)) (t .waiting) at (replacement-ids t) f h in
-        rw (g, other, no-entry, absent) l
+        let absent = first-none sameBytes (c .id) (replacementIds (view t)) (t .waiting) at (replacement-ids t) q h in
+        rw (g, f, other, no-entry, absent) l
 
 -- a newcomer whose log distance has k entries
 module _ (t : RoutingTable) (c : Contact) (k : ℕ) (e : k ≡ countOf (logFor t c) (entryLogs (view t))) where

@@ -1,4 +1,4 @@
--- A sighting: `seen` on views, tests 0, 20, 21, 22.
+-- A sighting: `seen` on views, tests 0, 6, 20, 21, 22.
 use Prim.Native.Nat.{ℕ}
 use mathlib.Core.Bool.{cond, _&&_}
 use mathlib.Core.List.{[], _∷_, _++_}
@@ -9,7 +9,7 @@ use Rattle.octets.specs.Equal.{sameBytes, holds}
 use Rattle.distance.specs.Distance.{logDistanceOf}
 use Rattle.routing_table.specs.View.{View, entryIds, replacementIds, entryLogs, replacementLogs}
 use Rattle.routing_table.specs.Places.{firstPlace, countOf, removeAt}
-use Rattle.routing_table.specs.Good.{good}
+use Rattle.routing_table.specs.Good.{sized, good}
 use Rattle.routing_table.specs.declared.Contact.{Contact}
 use Rattle.routing_calls.specs.Change.{entryOf, withEntries, withReplacements}
 
@@ -48,4 +48,7 @@ meetOf v c =
     (newcomerOf v c (logDistanceOf (v .own) (c .id))))
 
 unfoldable pub seenOf : View → Contact → Seeing
-seenOf v c = cond (good v) (cond (sameBytes (v .own) (c .id)) (refused (only 20)) (meetOf v c)) (refused (only 0))
+seenOf v c =
+    cond (good v)
+    (cond (sized c) (cond (sameBytes (v .own) (c .id)) (refused (only 20)) (meetOf v c)) (refused (only 6)))
+    (refused (only 0))

@@ -30,6 +30,9 @@ pub fn seen(table: RoutingTable, contact: Contact) -> SeenAnswer
     if !told.good {
         return refused(table, Refusal::BadState);
     }
+    if !routing_table::record_fits(contact.len) {
+        return refused(table, Refusal::ItemRule);
+    }
     if told.own {
         return refused(table, Refusal::OwnId);
     }

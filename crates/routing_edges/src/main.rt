@@ -8,6 +8,7 @@ use libc::STDOUT_FILENO;
 use refusal::Refusal;
 use routing_calls::Failure;
 use routing_calls::Standing;
+use routing_table::Contact;
 use routing_table::Found;
 use routing_table::RoutingTable;
 
@@ -16,6 +17,7 @@ fn main() {
     show_logs();
     show_ids();
     show_failures();
+    show_records();
     show_unused();
 }
 
@@ -99,6 +101,54 @@ fn show_failures() {
     );
 }
 
+fn show_records() {
+    let none = tables::none();
+    let full = tables::entries(none, 1, 16);
+    show_record(
+        b"an entry with a record of 1 byte",
+        b"a replacement with a record of 1 byte",
+        1,
+    );
+    show_record(
+        b"an entry with a record of 300 bytes",
+        b"a replacement with a record of 300 bytes",
+        300,
+    );
+    show_record(
+        b"an entry with a record of no bytes",
+        b"a replacement with a record of no bytes",
+        0,
+    );
+    show_record(
+        b"an entry with a record of 301 bytes",
+        b"a replacement with a record of 301 bytes",
+        301,
+    );
+    show_record(
+        b"an entry with a record of the largest length",
+        b"a replacement with a record of the largest length",
+        usize::MAX,
+    );
+    show(
+        b"a record of no bytes in the first entry",
+        tables::entry(tables::entry_of(none, tables::sized(4, 1, 0), 0), 1, 0, 0),
+    );
+    show(
+        b"a record of no bytes in the first replacement",
+        tables::replacement(tables::replacement_of(full, tables::sized(1, 16, 0)), 1, 17),
+    );
+}
+
+// A table with an entry more, and one with a replacement more, whose record has so many bytes.
+fn show_record(entry: &[u8], replacement: &[u8], len: usize) {
+    let some = tables::some();
+    show(entry, tables::entry_of(some, tables::sized(4, 1, len), 0));
+    show(
+        replacement,
+        tables::replacement_of(some, tables::sized(2, 17, len)),
+    );
+}
+
 fn show_unused() {
     let some = tables::some();
     show(
@@ -112,6 +162,14 @@ fn show_unused() {
     show(
         b"unused: 255 failures",
         tables::unused(tables::entry(some, 4, 1, 255)),
+    );
+    show(
+        b"unused: records of no bytes",
+        tables::unused(tables::one_more(some, 0)),
+    );
+    show(
+        b"unused: records of the largest length",
+        tables::unused(tables::one_more(some, usize::MAX)),
     );
     show(
         b"unused: a 17th entry and a 5th replacement of one log distance",
@@ -129,14 +187,57 @@ fn show(name: &[u8], table: RoutingTable) {
     let named = answer::text(&mut out, 0, name);
     let start = answer::end(&mut out, named);
     let found = find_line(table, &mut out, start);
-    let newcomer = seen_line(b"a newcomer", table, 4, 200, &mut out, found);
-    let stranger = seen_line(b"a stranger", table, 200, 200, &mut out, newcomer);
-    let neighbour = seen_line(b"a neighbour", table, 0, 200, &mut out, stranger);
-    let own = seen_line(b"our own id", table, 0, 0, &mut out, neighbour);
-    let first = failed_line(b"the first", table, 1, 0, &mut out, own);
+    let newcomer = seen_line(
+        b"a newcomer",
+        table,
+        tables::contact(4, 200),
+        &mut out,
+        found,
+    );
+    let stranger = seen_line(
+        b"a stranger",
+        table,
+        tables::contact(200, 200),
+        &mut out,
+        newcomer,
+    );
+    let neighbour = seen_line(
+        b"a neighbour",
+        table,
+        tables::contact(0, 200),
+        &mut out,
+        stranger,
+    );
+    let own = seen_line(
+        b"our own id",
+        table,
+        tables::contact(0, 0),
+        &mut out,
+        neighbour,
+    );
+    let sized = record_lines(table, &mut out, own);
+    let first = failed_line(b"the first", table, 1, 0, &mut out, sized);
     let again = failed_line(b"our own id", table, 0, 0, &mut out, first);
     let last = failed_line(b"a stranger", table, 200, 200, &mut out, again);
     io::write_all(STDOUT_FILENO, words::front(&out, last));
+}
+
+// Sightings whose record does not fit.
+fn record_lines(table: RoutingTable, out: &mut [u8], from: usize) -> usize {
+    let own = seen_line(
+        b"our own id with a record of the largest length",
+        table,
+        tables::sized(0, 0, usize::MAX),
+        out,
+        from,
+    );
+    seen_line(
+        b"a newcomer with a record of no bytes",
+        table,
+        tables::sized(4, 200, 0),
+        out,
+        own,
+    )
 }
 
 fn number_line(why: Refusal, out: &mut [u8], from: usize) -> usize {
@@ -176,9 +277,15 @@ fn zeros_word(zeros: bool, out: &mut [u8], at: usize) -> usize {
     }
 }
 
-fn seen_line(name: &[u8], table: RoutingTable, a: u8, b: u8, out: &mut [u8], from: usize) -> usize {
+fn seen_line(
+    name: &[u8],
+    table: RoutingTable,
+    contact: Contact,
+    out: &mut [u8],
+    from: usize,
+) -> usize {
     let at = call_word(b"  seen ", name, out, from);
-    let done = routing_calls::seen(table, tables::contact(a, b));
+    let done = routing_calls::seen(table, contact);
     let next = done.table;
     let standing = done.standing;
     let said = kept_word(table, next, out, at);

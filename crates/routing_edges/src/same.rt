@@ -2,6 +2,7 @@
 use routing_table::Contact;
 use routing_table::ENTRIES;
 use routing_table::Entry;
+use routing_table::RECORD;
 use routing_table::REPLACEMENTS;
 use routing_table::RoutingTable;
 
@@ -37,6 +38,17 @@ fn same_entry(a: Entry, b: Entry) -> bool {
 }
 
 fn same_contact(a: Contact, b: Contact) -> bool {
+    same_record(a, b) && same_rest(a, b)
+}
+
+// The bytes behind a record too.
+fn same_record(a: Contact, b: Contact) -> bool {
+    let a_enr = a.enr;
+    let b_enr = b.enr;
+    a.len == b.len && check::same(&a_enr, &b_enr)
+}
+
+fn same_rest(a: Contact, b: Contact) -> bool {
     let a_id = a.id;
     let b_id = b.id;
     let a_radius = a.radius;
@@ -56,6 +68,8 @@ pub fn is_zeros(contact: Contact) -> bool {
         radius: [0u8; 32],
         address: [0u8; 4],
         port: 0,
+        len: 0,
+        enr: [0u8; RECORD],
     };
     same_contact(contact, zeros)
 }

@@ -2,6 +2,7 @@
 use routing_table::Contact;
 use routing_table::ENTRIES;
 use routing_table::Entry;
+use routing_table::RECORD;
 use routing_table::REPLACEMENTS;
 use routing_table::RoutingTable;
 
@@ -19,7 +20,16 @@ pub fn contact(a: u8, b: u8) -> Contact {
         radius: [b; 32],
         address: [10, 0, a, b],
         port: 9009,
+        len: 1 + octets::wide(b),
+        enr: [a; RECORD],
     }
+}
+
+// The contact with a record of so many bytes, whatever its array has.
+pub fn sized(a: u8, b: u8, len: usize) -> Contact {
+    let mut made = contact(a, b);
+    made.len = len;
+    made
 }
 
 pub fn none() -> RoutingTable {
@@ -45,27 +55,32 @@ pub fn most() -> RoutingTable {
 
 // The table with an entry more, if there is a place.
 pub fn entry(table: RoutingTable, a: u8, b: u8, failures: u8) -> RoutingTable {
+    entry_of(table, contact(a, b), failures)
+}
+
+pub fn entry_of(table: RoutingTable, contact: Contact, failures: u8) -> RoutingTable {
     let at = table.count;
     if ENTRIES <= at {
         return table;
     }
     let mut next = table;
-    next.entries[at] = Entry {
-        contact: contact(a, b),
-        failures,
-    };
+    next.entries[at] = Entry { contact, failures };
     next.count = at + 1;
     next
 }
 
 // The table with a replacement more, if there is a place.
 pub fn replacement(table: RoutingTable, a: u8, b: u8) -> RoutingTable {
+    replacement_of(table, contact(a, b))
+}
+
+pub fn replacement_of(table: RoutingTable, contact: Contact) -> RoutingTable {
     let at = table.waiting;
     if REPLACEMENTS <= at {
         return table;
     }
     let mut next = table;
-    next.replacements[at] = contact(a, b);
+    next.replacements[at] = contact;
     next.waiting = at + 1;
     next
 }
@@ -99,4 +114,10 @@ pub fn counted(table: RoutingTable, count: usize, waiting: usize) -> RoutingTabl
 // The table with the counts of `some`: what was added to that stands in unused places.
 pub fn unused(table: RoutingTable) -> RoutingTable {
     counted(table, 33, 5)
+}
+
+// The table with an entry and a replacement more, with records of so many bytes.
+pub fn one_more(table: RoutingTable, len: usize) -> RoutingTable {
+    let more = entry_of(table, sized(4, 1, len), 0);
+    replacement_of(more, sized(2, 17, len))
 }

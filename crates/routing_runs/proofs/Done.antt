@@ -6,7 +6,7 @@ use lib.ListN.{length}
 use Rattle.refusal.specs.Says.{Said}
 use Rattle.routing_table.specs.View.{View, entryLogs, replacementLogs}
 use Rattle.routing_table.specs.Places.{countOf}
-use Rattle.routing_table.specs.Rules.{logOf}
+use Rattle.routing_table.specs.Rules.{logOf, HasRecord}
 use Rattle.routing_table.specs.declared.Contact.{Contact}
 use Rattle.routing_table.specs.declared.Entry.{Entry}
 use Rattle.routing_calls.specs.Change.{entryOf, withEntries, withReplacements}
@@ -34,22 +34,22 @@ exchanged v es cs = record { own = v .own; entries = es; replacements = cs }
 
 -- view, call, next view, answer
 pub data Done (v : View) : Call → View → Answer → Type 0 where
-  -- 20, 21, 22, 29
+  -- 6, 20, 21, 22, 29
   refusing : {call : Call} {r : Said} → Refusing v call r → Done v call v (refused r)
   -- an entry is seen
-  renewed : {c : Contact} (front : List Entry) (e : Entry) (back : List Entry) → EntryAt v (c .id) front e back
+  renewed : {c : Contact} → HasRecord c → (front : List Entry) (e : Entry) (back : List Entry) → EntryAt v (c .id) front e back
       → Done v (seen c) (withEntries v (front ++ entryOf c ∷ back)) entry
   -- a replacement is seen
-  moved : {c : Contact} (front : List Contact) (old : Contact) (back : List Contact) → ReplacementAt v (c .id) front old back
+  moved : {c : Contact} → HasRecord c → (front : List Contact) (old : Contact) (back : List Contact) → ReplacementAt v (c .id) front old back
       → Done v (seen c) (withReplacements v (front ++ back ++ c ∷ [])) replacement
   -- a newcomer becomes an entry
-  added : {c : Contact} → New v c → countOf (logOf v c) (entryLogs v) < 16 → length (v .entries) < 128
+  added : {c : Contact} → HasRecord c → New v c → countOf (logOf v c) (entryLogs v) < 16 → length (v .entries) < 128
       → Done v (seen c) (withEntries v (v .entries ++ entryOf c ∷ [])) entry
   -- a newcomer waits
-  waiting : {c : Contact} → New v c → 16 ≤ countOf (logOf v c) (entryLogs v) → countOf (logOf v c) (replacementLogs v) < 4
+  waiting : {c : Contact} → HasRecord c → New v c → 16 ≤ countOf (logOf v c) (entryLogs v) → countOf (logOf v c) (replacementLogs v) < 4
       → length (v .replacements) < 16 → Done v (seen c) (withReplacements v (v .replacements ++ c ∷ [])) replacement
   -- a newcomer waits in place of the longest unseen of its log distance
-  makingWay : {c : Contact} (front : List Contact) (out : Contact) (back : List Contact) → New v c → 16 ≤ countOf (logOf v c) (entryLogs v)
+  makingWay : {c : Contact} → HasRecord c → (front : List Contact) (out : Contact) (back : List Contact) → New v c → 16 ≤ countOf (logOf v c) (entryLogs v)
       → LongestUnseen v (logOf v c) out front back
       → Done v (seen c) (withReplacements v (front ++ back ++ c ∷ [])) replacement
   -- the first and the second failure of an entry in a row

@@ -1,4 +1,4 @@
--- The rules of a table but for its failures speak of ids alone: what happens to them where an id comes, leaves, or moves. Assumes nothing.
+-- The rules of a table but for its failures and records speak of ids alone: what happens to them where an id comes, leaves, or moves. Assumes nothing.
 use Prim.Native.Nat.{ℕ, suc, _+_, _≤_, _<_}
 use native.Mathlib.Decide.{ℕ-discrete}
 use native.Mathlib.Omega.{arith}

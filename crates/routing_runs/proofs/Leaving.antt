@@ -45,12 +45,12 @@ module _ {v : View} where
   pub entry-leaves : {c : Call} {w : View} {a : Answer} (e : Entry) → Done v c w a → e among v .entries
       → ¬ (e .contact .id among entryIds w) → GivesWay v c w a e
   entry-leaves d (refusing why) m gone = absurd (gone (mapped entryId m))
-  entry-leaves d (renewed {c = c} front e back at) m gone =
+  entry-leaves d (renewed {c = c} fits front e back at) m gone =
       absurd (gone (id-stays entryId front e (entryOf c) back (at .stands) (at .named) m))
-  entry-leaves d (moved front old back at) m gone = absurd (gone (mapped entryId m))
-  entry-leaves d (added {c = c} new room few) m gone = absurd (gone (mapped entryId (in-front (entryOf c ∷ []) m)))
-  entry-leaves d (waiting new full room few) m gone = absurd (gone (mapped entryId m))
-  entry-leaves d (makingWay front out back new full oldest) m gone = absurd (gone (mapped entryId m))
+  entry-leaves d (moved fits front old back at) m gone = absurd (gone (mapped entryId m))
+  entry-leaves d (added {c = c} fits new room few) m gone = absurd (gone (mapped entryId (in-front (entryOf c ∷ []) m)))
+  entry-leaves d (waiting fits new full room few) m gone = absurd (gone (mapped entryId m))
+  entry-leaves d (makingWay fits front out back new full oldest) m gone = absurd (gone (mapped entryId m))
   entry-leaves d (counting front e back at few) m gone =
       absurd (gone (id-stays entryId front e _ back (at .stands) refl m))
   entry-leaves d (flagging front e back at third none) m gone =
@@ -65,14 +65,14 @@ module _ {v : View} where
       → ¬ (out .id among replacementIds w) → BecomesEntry v c w a out ⊎ MakesWay v c w a out
   unfolding gives-way
   replacement-leaves d (refusing why) m gone = absurd (gone (mapped contactId m))
-  replacement-leaves d (renewed front e back at) m gone = absurd (gone (mapped contactId m))
-  replacement-leaves d (moved {c = c} front old back at) m gone =
+  replacement-leaves d (renewed fits front e back at) m gone = absurd (gone (mapped contactId m))
+  replacement-leaves d (moved {c = c} fits front old back at) m gone =
       ⊎-elim (λ (q : d ≡ old). absurd (gone (cast (ap contactId q ∙ at .named) (mapped contactId (middle-self (front ++ back) c [])))))
       (λ (n : d among front ++ back). absurd (gone (mapped contactId (in-front (c ∷ []) n))))
       (in-cases front old back (at .stands) m)
-  replacement-leaves d (added new room few) m gone = absurd (gone (mapped contactId m))
-  replacement-leaves d (waiting {c = c} new full room few) m gone = absurd (gone (mapped contactId (in-front (c ∷ []) m)))
-  replacement-leaves d (makingWay {c = c} front out back new full oldest) m gone =
+  replacement-leaves d (added fits new room few) m gone = absurd (gone (mapped contactId m))
+  replacement-leaves d (waiting {c = c} fits new full room few) m gone = absurd (gone (mapped contactId (in-front (c ∷ []) m)))
+  replacement-leaves d (makingWay {c = c} fits front out back new full oldest) m gone =
       ⊎-elim
       (λ (q : d ≡ out). inr (record {
         newcomer = c;
@@ -102,11 +102,11 @@ module _ {v : View} where
   -- a refused call changes nothing, and has its reason
   pub refused-done : {c : Call} {w : View} {a : Answer} (r : Said) → Done v c w a → a ≡ refused r → (w ≡ v) × Refusing v c r
   refused-done r (refusing {call = call} {r = said} why) e = let same : said ≡ r = cc in (refl, subst (Refusing v call) same why)
-  refused-done r (renewed front x back at) e = absurd (true≢false cc)
-  refused-done r (moved front old back at) e = absurd (true≢false cc)
-  refused-done r (added new room few) e = absurd (true≢false cc)
-  refused-done r (waiting new full room few) e = absurd (true≢false cc)
-  refused-done r (makingWay front out back new full oldest) e = absurd (true≢false cc)
+  refused-done r (renewed fits front x back at) e = absurd (true≢false cc)
+  refused-done r (moved fits front old back at) e = absurd (true≢false cc)
+  refused-done r (added fits new room few) e = absurd (true≢false cc)
+  refused-done r (waiting fits new full room few) e = absurd (true≢false cc)
+  refused-done r (makingWay fits front out back new full oldest) e = absurd (true≢false cc)
   refused-done r (counting front x back at few) e = absurd (true≢false cc)
   refused-done r (flagging front x back at third none) e = absurd (true≢false cc)
   refused-done r (exchanging front x back at third ahead behind recent) e = absurd (true≢false cc)
@@ -114,11 +114,11 @@ module _ {v : View} where
   -- our own id stays put
   pub owner-stays : {c : Call} {w : View} {a : Answer} → Done v c w a → w .own ≡ v .own
   owner-stays (refusing why) = refl
-  owner-stays (renewed front e back at) = refl
-  owner-stays (moved front old back at) = refl
-  owner-stays (added new room few) = refl
-  owner-stays (waiting new full room few) = refl
-  owner-stays (makingWay front out back new full oldest) = refl
+  owner-stays (renewed fits front e back at) = refl
+  owner-stays (moved fits front old back at) = refl
+  owner-stays (added fits new room few) = refl
+  owner-stays (waiting fits new full room few) = refl
+  owner-stays (makingWay fits front out back new full oldest) = refl
   owner-stays (counting front e back at few) = refl
   owner-stays (flagging front e back at third none) = refl
   owner-stays (exchanging front e back at third ahead behind recent) = refl

@@ -117,16 +117,16 @@ module _ {v : View} {s : List Told} (rules : Rules v) (m : Memory v s) where
   -- every call
   pub memory-kept : {c : Call} {w : View} {a : Answer} → Done v c w a → Memory w (told c a ∷ s)
   memory-kept (refusing {call = call} {r = r} why) = refused-kept call r why
-  memory-kept (renewed {c = c} front e back at) = renewed-kept at c refl
-  memory-kept (moved {c = c} front old back at) =
+  memory-kept (renewed {c = c} fits front e back at) = renewed-kept at c refl
+  memory-kept (moved {c = c} fits front old back at) =
       latest-kept c (front ++ back)
       (λ e n q. entry-apart rules n (in-self front old back (at .stands)) (q ∙ sym (at .named)))
       (λ d n. replacements-apart rules at n)
       (waits-without s front old back (subst (Waits s) (at .stands) (m .replacements)))
-  memory-kept (added {c = c} new room few) = added-kept c new
-  memory-kept (waiting {c = c} new full room few) =
+  memory-kept (added {c = c} fits new room few) = added-kept c new
+  memory-kept (waiting {c = c} fits new full room few) =
       latest-kept c (v .replacements) (λ e n. new-entry v new n) (λ d n. new-replacement v new n) (m .replacements)
-  memory-kept (makingWay {c = c} front out back new full oldest) =
+  memory-kept (makingWay {c = c} fits front out back new full oldest) =
       latest-kept c (front ++ back) (λ e n. new-entry v new n)
       (λ d n. new-replacement v new (in-other front out back (oldest .stands) n))
       (waits-without s front out back (subst (Waits s) (oldest .stands) (m .replacements)))

@@ -7,10 +7,11 @@ use Rattle.refusal.specs.Says.{Said, numberIn}
 use Rattle.routing_table.specs.View.{View, entryIds, replacementIds}
 use Rattle.routing_table.specs.Rules.{_among_, Rules}
 use Rattle.routing_runs.specs.Step.{Call, failed}
-use Rattle.routing_runs.specs.Refusing.{Refusing, ours, oursFailed, entriesUsed, replacementsUsed, noEntry}
+use Rattle.routing_runs.specs.Refusing.{Refusing, badRecord, ours, oursFailed, entriesUsed, replacementsUsed, noEntry}
 
 module _ {v : View} where
   pub not-zero : {c : Call} {r : Said} → Refusing v c r → ¬ (numberIn r ≡ 0)
+  not-zero (badRecord n) e = omega arith
   not-zero (ours q) e = omega arith
   not-zero (oursFailed q) e = omega arith
   not-zero (entriesUsed n room used) e = omega arith

@@ -16,12 +16,12 @@ use Rattle.octets.proofs.Equal.{same-true, same-false, member-holds}
 use Rattle.distance.specs.Distance.{logDistanceOf}
 use Rattle.routing_table.specs.View.{View, noContact, noEntry, entryId, contactId, entryIds, replacementIds, entryLogs, replacementLogs}
 use Rattle.routing_table.specs.Places.{firstPlace, lastPlace, countOf}
-use Rattle.routing_table.specs.Good.{good}
-use Rattle.routing_table.specs.Rules.{logOf, Rules}
+use Rattle.routing_table.specs.Good.{sized, good}
+use Rattle.routing_table.specs.Rules.{logOf, HasRecord, Rules}
 use Rattle.routing_table.specs.declared.Contact.{Contact}
 use Rattle.routing_table.specs.declared.Entry.{Entry}
 use Rattle.routing_table.proofs.Counts.{both, count-unheld}
-use Rattle.routing_table.proofs.Keeps.{keeps-good}
+use Rattle.routing_table.proofs.Keeps.{keeps-good, sized-record, record-sized}
 use Rattle.routing_table.proofs.Splits.{FoundAt, holds-none, first-at, last-at}
 use Rattle.routing_calls.specs.Change.{entryOf, withEntries, withReplacements}
 use Rattle.routing_calls.specs.Seen as sees
@@ -30,7 +30,7 @@ use Rattle.routing_calls.specs.Failed as fails
 use Rattle.routing_calls.specs.Failed.{failedOf, missOf, failAtOf, giveWayOf, failuresAt, promoted}
 use Rattle.routing_runs.specs.Step.{Call, seen, failed, Answer, refused, afterSeen, afterFailed, step}
 use Rattle.routing_runs.specs.Leaving.{NoneAt, MostRecent, LongestUnseen}
-use Rattle.routing_runs.specs.Refusing.{New, ours, oursFailed, entriesUsed, replacementsUsed, noEntry as strange}
+use Rattle.routing_runs.specs.Refusing.{New, badRecord, ours, oursFailed, entriesUsed, replacementsUsed, noEntry as strange}
 use Rattle.routing_runs.proofs.Done.{EntryAt, ReplacementAt, failing, Done, refusing, renewed, moved, added, waiting, makingWay, counting, flagging, exchanging}
 
 -- where the first of two tests passes and not both do, the second fails
@@ -129,9 +129,9 @@ module _ (v : View) where
         (List·Memᴰ·append-cases (entryIds v) n)) (List·Memᴰ·cases-cons m)
 
     -- a newcomer to a log distance that is full of entries
-    wait-does : New v c → 16 ≤ countOf (logOf v c) (entryLogs v) → Does v (seen c) (afterSeen v (waitOf v c (logOf v c)))
+    wait-does : HasRecord c → New v c → 16 ≤ countOf (logOf v c) (entryLogs v) → Does v (seen c) (afterSeen v (waitOf v c (logOf v c)))
     unfolding waitOf
-    wait-does n full =
+    wait-does fits n full =
         go (ltb (countOf (logOf v c) (replacementLogs v)) 4 && ltb (length (v .replacements)) 16) refl
         (holds eqb (logOf v c) (replacementLogs v)) refl
       where
@@ -148,44 +148,46 @@ module _ (v : View) where
             (cond h (latestFor v (oldest (logOf v c)) c) (sees.refused (only 22)))))
         go true e h q =
             let b = both (ltb (countOf (logOf v c) (replacementLogs v)) 4) (ltb (length (v .replacements)) 16) e in
-            waiting n full (ltb-true (countOf (logOf v c) (replacementLogs v)) 4 (b .0)) (ltb-true (length (v .replacements)) 16 (b .1))
-        go false e true q = makingWay _ _ _ n full (oldest-at (logOf v c) q)
+            waiting fits n full (ltb-true (countOf (logOf v c) (replacementLogs v)) 4 (b .0)) (ltb-true (length (v .replacements)) 16 (b .1))
+        go false e true q = makingWay fits _ _ _ n full (oldest-at (logOf v c) q)
         go false e false q = refusing (replacementsUsed n full (used e q) (none-at (logOf v c) q))
 
     -- a newcomer
-    newcomer-does : New v c → Does v (seen c) (afterSeen v (newcomerOf v c (logOf v c)))
+    newcomer-does : HasRecord c → New v c → Does v (seen c) (afterSeen v (newcomerOf v c (logOf v c)))
     unfolding newcomerOf
-    newcomer-does n = go (ltb (countOf (logOf v c) (entryLogs v)) 16) refl (ltb (length (v .entries)) 128) refl
+    newcomer-does fits n = go (ltb (countOf (logOf v c) (entryLogs v)) 16) refl (ltb (length (v .entries)) 128) refl
       where
         go : (t : Bool) → ltb (countOf (logOf v c) (entryLogs v)) 16 ≡ t → (h : Bool) → ltb (length (v .entries)) 128 ≡ h
             → Does v (seen c) (afterSeen v (cond t
             (cond h (sees.entry (withEntries v (v .entries ++ entryOf c ∷ []))) (sees.refused (only 21)))
             (waitOf v c (logOf v c))))
-        go true e true q = added n (ltb-true (countOf (logOf v c) (entryLogs v)) 16 e) (ltb-true (length (v .entries)) 128 q)
+        go true e true q = added fits n (ltb-true (countOf (logOf v c) (entryLogs v)) 16 e) (ltb-true (length (v .entries)) 128 q)
         go true e false q =
             refusing (entriesUsed n (ltb-true (countOf (logOf v c) (entryLogs v)) 16 e) (ltb-false (length (v .entries)) 128 q))
-        go false e h q = wait-does n (ltb-false (countOf (logOf v c) (entryLogs v)) 16 e)
+        go false e h q = wait-does fits n (ltb-false (countOf (logOf v c) (entryLogs v)) 16 e)
 
     -- an id other than ours
-    meet-does : sameBytes (v .own) (c .id) ≡ false → Does v (seen c) (afterSeen v (meetOf v c))
+    meet-does : HasRecord c → sameBytes (v .own) (c .id) ≡ false → Does v (seen c) (afterSeen v (meetOf v c))
     unfolding meetOf
-    meet-does o = go (holds sameBytes (c .id) (entryIds v)) refl (holds sameBytes (c .id) (replacementIds v)) refl
+    meet-does fits o = go (holds sameBytes (c .id) (entryIds v)) refl (holds sameBytes (c .id) (replacementIds v)) refl
       where
         go : (t : Bool) → holds sameBytes (c .id) (entryIds v) ≡ t → (h : Bool) → holds sameBytes (c .id) (replacementIds v) ≡ h
             → Does v (seen c) (afterSeen v (cond t
             (sees.entry (withEntries v (set (v .entries) (entryPlace (c .id)) (entryOf c))))
             (cond h (latestFor v (replacementPlace (c .id)) c) (newcomerOf v c (logOf v c)))))
-        go true e h q = rw (entry-set (c .id) (entryOf c) e) (renewed _ _ _ (entry-at (c .id) e))
-        go false e true q = moved _ _ _ (replacement-at (c .id) q)
-        go false e false q = newcomer-does (new o e q)
+        go true e h q = rw (entry-set (c .id) (entryOf c) e) (renewed fits _ _ _ (entry-at (c .id) e))
+        go false e true q = moved fits _ _ _ (replacement-at (c .id) q)
+        go false e false q = newcomer-does fits (new o e q)
 
     seen-does : good v ≡ true → Does v (seen c) (afterSeen v (seenOf v c))
     unfolding seenOf
-    seen-does g = rw g (go (sameBytes (v .own) (c .id)) refl)
+    seen-does g = rw g (go (sized c) refl (sameBytes (v .own) (c .id)) refl)
       where
-        go : (t : Bool) → sameBytes (v .own) (c .id) ≡ t → Does v (seen c) (afterSeen v (cond t (sees.refused (only 20)) (meetOf v c)))
-        go true e = refusing (ours (sym (same-true (v .own) (c .id) e)))
-        go false e = meet-does e
+        go : (s : Bool) → sized c ≡ s → (t : Bool) → sameBytes (v .own) (c .id) ≡ t
+            → Does v (seen c) (afterSeen v (cond s (cond t (sees.refused (only 20)) (meetOf v c)) (sees.refused (only 6))))
+        go true f true e = refusing (ours (sym (same-true (v .own) (c .id) e)))
+        go true f false e = meet-does (sized-record c f) e
+        go false f t e = refusing (badRecord (λ h. true≢false (sym (record-sized c h) ∙ f)))
 
   module _ (id : List ℕ) where
     -- the entry with the id

@@ -6,7 +6,7 @@ use lib.ListN.{length}
 use Rattle.refusal.specs.Says.{Said, only}
 use Rattle.routing_table.specs.View.{View, idsOf, entryIds, entryLogs}
 use Rattle.routing_table.specs.Places.{countOf}
-use Rattle.routing_table.specs.Rules.{_among_, logOf}
+use Rattle.routing_table.specs.Rules.{_among_, logOf, HasRecord}
 use Rattle.routing_table.specs.declared.Contact.{Contact}
 use Rattle.routing_runs.specs.Step.{Call, seen, failed}
 use Rattle.routing_runs.specs.Leaving.{NoneAt}
@@ -16,6 +16,8 @@ abbrev pub New : View → Contact → Type 0
 New v c = ¬ (c .id among idsOf v)
 
 pub data Refusing (v : View) : Call → Said → Type 0 where
+  -- 6: the record has not 1 to 300 bytes
+  badRecord : {c : Contact} → ¬ HasRecord c → Refusing v (seen c) (only 6)
   -- 20: our own id
   ours : {c : Contact} → c .id ≡ v .own → Refusing v (seen c) (only 20)
   oursFailed : {id : List ℕ} → id ≡ v .own → Refusing v (failed id) (only 20)

@@ -39,7 +39,7 @@ module _ (own : List ℕ) (calls : List Call) where
     pub noZero : (c : Call) (r : Said) → says c ≡ refused r → ¬ (numberIn r ≡ 0)
     -- 2. our own id stays put
     pub owner : table .own ≡ own
-    -- 3. the fields of every entry and replacement are those of the last accepted sighting of its id
+    -- 3. the fields of every entry and replacement, the record among them, are those of the last accepted sighting of its id
     pub entryFields : (e : Entry) → e among table .entries → lastSighting (e .contact .id) told ≡ some (e .contact)
     pub replacementFields : (c : Contact) → c among table .replacements → lastSighting (c .id) told ≡ some c
     -- 4. replacements stand in the order of their last sightings, longest unseen first

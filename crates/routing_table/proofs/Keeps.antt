@@ -1,5 +1,5 @@
 -- The test of a table's rules says that it keeps them. Assumes nothing.
-use Prim.Native.Nat.{ℕ}
+use Prim.Native.Nat.{ℕ, _≤_}
 use native.Mathlib.Omega.{arith}
 use mathlib.Core.Path.{_≡_, ap, subst, _∙_}
 use mathlib.Core.Bool.{Bool, true, _&&_}
@@ -12,10 +12,11 @@ use Rattle.octets.specs.Equal.{sameBytes, allDifferent}
 use Rattle.distance.specs.Distance.{logDistanceOf}
 use Rattle.routing_table.specs.View.{View, contactId, idsOf, entryLogs, replacementIds, replacementLogs}
 use Rattle.routing_table.specs.Places.{countOf, every}
-use Rattle.routing_table.specs.Good.{noneOver, eachFull, fewFailures, good}
-use Rattle.routing_table.specs.Rules.{_among_, logOf, Rules}
+use Rattle.routing_table.specs.Good.{noneOver, eachFull, sized, soundEntry, sound, good}
+use Rattle.routing_table.specs.Rules.{_among_, logOf, HasRecord, Rules}
 use Rattle.routing_table.specs.declared.Contact.{Contact}
-use Rattle.routing_table.proofs.Counts.{both, every-one, one-every, none-over, over-none, all-different, different-all}
+use Rattle.routing_table.specs.declared.Entry.{Entry}
+use Rattle.routing_table.proofs.Counts.{both, join, every-one, one-every, none-over, over-none, all-different, different-all}
 
 all-seven : (a b c d e f g : Bool) → (a && b && c && d && e && f && g) ≡ true
     → (a ≡ true) × (b ≡ true) × (c ≡ true) × (d ≡ true) × (e ≡ true) × (f ≡ true) × (g ≡ true)
@@ -27,6 +28,24 @@ all-seven a b c d e f g h =
     let t = both (a && b) c (s .0) in
     let u = both a b (t .0) in
     (u .0, u .1, t .1, s .1, r .1, q .1, p .1)
+
+-- the test of a record is its size
+pub sized-record : (c : Contact) → sized c ≡ true → HasRecord c
+sized-record c e =
+    let b = both (leb 1 (c .len)) (leb (c .len) 300) e in
+    (leb-true 1 (c .len) (b .0), leb-true (c .len) 300 (b .1))
+
+pub record-sized : (c : Contact) → HasRecord c → sized c ≡ true
+record-sized c h = join (leb 1 (c .len)) (leb (c .len) 300) (le-leb 1 (c .len) (h .0)) (le-leb (c .len) 300 (h .1))
+
+-- the test of an entry is that of its failures and of its record
+sound-entry : (e : Entry) → soundEntry e ≡ true → (e .failures ≤ 3) × HasRecord (e .contact)
+sound-entry e t =
+    let b = both (leb (e .failures) 3) (sized (e .contact)) t in
+    (leb-true (e .failures) 3 (b .0), sized-record (e .contact) (b .1))
+
+entry-sound : (e : Entry) → e .failures ≤ 3 → HasRecord (e .contact) → soundEntry e ≡ true
+entry-sound e f h = join (leb (e .failures) 3) (sized (e .contact)) (le-leb (e .failures) 3 f) (record-sized (e .contact) h)
 
 module _ (v : View) where
   abbrev fullAt : ℕ → Bool
@@ -47,9 +66,10 @@ module _ (v : View) where
   unfolding good
   good-keeps g =
       let t =
-      all-seven (leb (length (v .entries)) 128) (leb (length (v .replacements)) 16) (every fewFailures (v .entries))
+      all-seven (leb (length (v .entries)) 128) (leb (length (v .replacements)) 16) (sound v)
       (allDifferent sameBytes (idsOf v)) (noneOver 16 (entryLogs v)) (noneOver 4 (replacementLogs v)) (eachFull (entryLogs v) (replacementLogs v)) g in
       let each = none-over 16 (entryLogs v) (t .4) in
+      let s = both (every soundEntry (v .entries)) (every sized (v .replacements)) (t .2) in
       record {
         entriesMost = leb-true (length (v .entries)) 128 (t .0);
         entriesEach = each;
@@ -59,7 +79,9 @@ module _ (v : View) where
             let l = leb-true 16 (countOf (logOf v c) (entryLogs v)) (every-one fullAt (replacementLogs v) (t .6) (log-among c m)) in
             omega (arith, each (logOf v c));
         different = all-different (idsOf v) (t .3);
-        failures = λ e m. leb-true (e .failures) 3 (every-one fewFailures (v .entries) (t .2) m);
+        failures = λ e m. sound-entry e (every-one soundEntry (v .entries) (s .0) m) .0;
+        entryRecords = λ e m. sound-entry e (every-one soundEntry (v .entries) (s .0) m) .1;
+        replacementRecords = λ c m. sized-record c (every-one sized (v .replacements) (s .1) m);
       }
 
   -- a table that keeps the rules passes the test
@@ -69,7 +91,8 @@ module _ (v : View) where
       rw (
         le-leb (length (v .entries)) 128 (r .entriesMost),
         le-leb (length (v .replacements)) 16 (r .replacementsMost),
-        one-every fewFailures (v .entries) (λ e m. le-leb (e .failures) 3 (r .failures e m)),
+        one-every soundEntry (v .entries) (λ e m. entry-sound e (r .failures e m) (r .entryRecords e m)),
+        one-every sized (v .replacements) (λ c m. record-sized c (r .replacementRecords c m)),
         different-all (idsOf v) (r .different),
         over-none 16 (entryLogs v) (r .entriesEach),
         over-none 4 (replacementLogs v) (r .replacementsEach),

@@ -9,8 +9,7 @@ use borrow.Author.Tests.{le-leb, lt-leb}
 use Rattle.octets.specs.Equal.{sameBytes, allDifferent}
 use Rattle.distance.specs.Distance.{logDistanceOf}
 use Rattle.routing_table.specs.View.{View, idsOf, entryLogs, replacementLogs}
-use Rattle.routing_table.specs.Places.{every}
-use Rattle.routing_table.specs.Good.{good, noneOver, eachFull, fewFailures}
+use Rattle.routing_table.specs.Good.{good, noneOver, eachFull, sound}
 use Rattle.routing_table.specs.Survey.{surveyOf, factsOf, noFacts}
 use Rattle.routing_table.specs.declared.Facts.{Facts}
 
@@ -25,11 +24,11 @@ module _ (v : View) (id : List ℕ) where
     many-replacements h = rw (le-leb (length (v .entries)) 128 few, lt-leb (length (v .replacements)) 16 h)
 
     module _ (less : length (v .replacements) ≤ 16) where
-      pub many-failures : every fewFailures (v .entries) ≡ false → surveyOf v id ≡ noFacts
+      pub not-sound : sound v ≡ false → surveyOf v id ≡ noFacts
       unfolding surveyOf good
-      many-failures e = rw (le-leb (length (v .entries)) 128 few, le-leb (length (v .replacements)) 16 less, e)
+      not-sound e = rw (le-leb (length (v .entries)) 128 few, le-leb (length (v .replacements)) 16 less, e)
 
-      module _ (well : every fewFailures (v .entries) ≡ true) where
+      module _ (well : sound v ≡ true) where
         pub some-same : allDifferent sameBytes (idsOf v) ≡ false → surveyOf v id ≡ noFacts
         unfolding surveyOf good
         some-same e = rw (le-leb (length (v .entries)) 128 few, le-leb (length (v .replacements)) 16 less, well, e)

@@ -10,7 +10,9 @@ use lib.Dec.{eqb}
 use lib.ListN.{length, getD, drop, drop-of-length-le}
 use lib.Seq.{drop-cons}
 use Rattle.octets.specs.Equal.{holds}
+use Rattle.routing_table.specs.View.{firsts}
 use Rattle.routing_table.specs.Places.{firstPlace, lastPlace, countOf, every}
+use Rattle.routing_table.proofs.Firsts.{length-firsts, get-firsts}
 
 -- what is left at a place of a list
 left-at : {A : Type 0} (none : A) (l : List A) (i : ℕ) → i < length l → drop i l ≡ getD l i none ∷ drop (i + 1) l
@@ -104,3 +106,17 @@ module _ {A : Type 0} (test : A → Bool) (none : A) (l : List A) (i : ℕ) wher
   pub every-end : length l ≤ i → every test (drop i l) ≡ true
   unfolding every
   every-end h = ap (every test) (drop-of-length-le l h)
+
+-- the same for the first n of an array
+module _ {A : Type 0} (test : A → Bool) (none : A) (n : ℕ) (a : List A) (i : ℕ) where
+  abbrev these : List A
+  these = firsts none n a
+
+  pub firsts-fail : i < n → test (getD a i none) ≡ false → every test (drop i these) ≡ false
+  firsts-fail h e = every-fails test none these i (omega (arith, length-firsts none n a)) (ap test (get-firsts none n a i h) ∙ e)
+
+  pub firsts-later : i < n → test (getD a i none) ≡ true → every test (drop i these) ≡ every test (drop (i + 1) these)
+  firsts-later h e = every-later test none these i (omega (arith, length-firsts none n a)) (ap test (get-firsts none n a i h) ∙ e)
+
+  pub firsts-end : n ≤ i → every test (drop i these) ≡ true
+  firsts-end h = every-end test none these i (omega (arith, length-firsts none n a))

@@ -46,7 +46,7 @@ meaningOf r = foundBy r (r .found)
 
 -- a contact of zeros
 abbrev pub blank : Contact
-blank = record { id = replicate 32 0; radius = replicate 32 0; address = replicate 4 0; port = 0 }
+blank = record { id = replicate 32 0; radius = replicate 32 0; address = replicate 4 0; port = 0; len = 0; enr = replicate 300 0 }
 
 -- the contact and the failures beside the answer: zeros where none
 abbrev pub contactOr0 : Finding → Contact

@@ -23,6 +23,10 @@ Different (a ∷ l) = (¬ (a among l)) × Different l
 abbrev pub logOf : View → Contact → ℕ
 logOf v c = logDistanceOf (v .own) (c .id)
 
+-- the record of a contact has 1 to 300 bytes
+abbrev pub HasRecord : Contact → Type 0
+HasRecord c = (1 ≤ c .len) × (c .len ≤ 300)
+
 pub record Rules (v : View) : Type 0 where
   -- at most 128 entries, at most 16 of one log distance
   pub entriesMost : length (v .entries) ≤ 128
@@ -36,3 +40,6 @@ pub record Rules (v : View) : Type 0 where
   pub different : Different (idsOf v)
   -- failures at most 3
   pub failures : (e : Entry) → e among v .entries → e .failures ≤ 3
+  -- records of 1 to 300 bytes
+  pub entryRecords : (e : Entry) → e among v .entries → HasRecord (e .contact)
+  pub replacementRecords : (c : Contact) → c among v .replacements → HasRecord c

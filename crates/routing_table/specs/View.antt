@@ -2,6 +2,7 @@
 -- the replacements ("waiters"), longest unseen first. What stands in unused places is no part of it.
 use Prim.Native.Nat.{ℕ, zero, suc}
 use mathlib.Core.List.{List, [], _∷_, _++_, map}
+use lib.ListN.{take}
 use Rattle.distance.specs.Distance.{logDistanceOf}
 use Rattle.routing_table.specs.declared.Contact.{Contact}
 use Rattle.routing_table.specs.declared.Entry.{Entry}
@@ -20,10 +21,14 @@ firsts other (suc n) (a ∷ l) = a ∷ firsts other n l
 
 -- no contact, and no entry: what is read where there is none
 abbrev pub noContact : Contact
-noContact = record { id = []; radius = []; address = []; port = 0 }
+noContact = record { id = []; radius = []; address = []; port = 0; len = 0; enr = [] }
 
 abbrev pub noEntry : Entry
 noEntry = record { contact = noContact; failures = 0 }
+
+-- the node record of a contact
+abbrev pub recordOf : Contact → List ℕ
+recordOf c = take (c .len) (c .enr)
 
 abbrev pub view : RoutingTable → View
 view t = record {

@@ -8,6 +8,7 @@ ghost use Rattle.routing_table.specs.View.{view, freshOf};
 ghost use Rattle.routing_table.specs.Survey.{surveyOf};
 ghost use Rattle.routing_table.specs.Find.{meaningOf, findOf, contactOr0, failuresOr0};
 use refusal::Refusal;
+pub use rules::record_fits;
 
 // How many entries a table has at most.
 pub const ENTRIES: usize = 128;
@@ -24,12 +25,18 @@ pub const REPLACEMENTS_EACH: usize = 4;
 // How far the failures of an entry are counted.
 pub const FAILURES: u8 = 3;
 
-// A node that was seen: its id, its radius, its IPv4 address and its port.
+// How many bytes a node record has at most.
+pub const RECORD: usize = 300;
+
+// A node that was seen: its id, its radius, its IPv4 address, its port and its node record, which is the first `len` bytes of `enr`. The
+// bytes behind them mean nothing.
 pub struct Contact {
     pub id: [u8; 32],
     pub radius: [u8; 32],
     pub address: [u8; 4],
     pub port: u16,
+    pub len: usize,
+    pub enr: [u8; RECORD],
 }
 
 // A contact, and how often it failed since it was last seen or became an entry, counted up to three.
@@ -142,6 +149,8 @@ fn blank() -> Contact
         radius: [0u8; 32],
         address: [0u8; 4],
         port: 0,
+        len: 0,
+        enr: [0u8; RECORD],
     }
 }
 

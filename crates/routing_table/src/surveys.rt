@@ -42,7 +42,7 @@ pub(crate) fn surveyed(table: RoutingTable, id: [u8; 32]) -> Facts
     requires { ⌜ (table .count ≤ 128) × (table .waiting ≤ 16) ⌝ }
     ensures { λ r. ⌜ r ≡ surveyOf (view table) id ⌝ }
 {
-    if !rules::few_failures(table) {
+    if !rules::sound(table) {
         return nothing();
     }
     let own = table.own;
@@ -57,7 +57,7 @@ pub(crate) fn surveyed(table: RoutingTable, id: [u8; 32]) -> Facts
     fitted(own, id, ids, &each[..end], middle)
 }
 
-// The survey of a view whose counts, failures and ids are right, from our own id and its ids and log distances, of which the
+// The survey of a view whose counts, failures, records and ids are right, from our own id and its ids and log distances, of which the
 // replacements' begin at `middle`.
 fn fitted<'a>(
     own: [u8; 32],

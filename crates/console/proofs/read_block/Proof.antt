@@ -1,6 +1,6 @@
 -- `console::read_block` is safe and ends: each line read moves on in the block, and the lent buffers keep their lengths. Assumes nothing.
 use Prim.Native.Nat.{_-_, _≤_}
-use mathlib.Core.Path.{_≡_}
+use mathlib.Core.Path.{_≡_, _∙_}
 use borrow.Author.Needs.{needs}
 use lib.ListN.{length}
 use Rattle.console.proofs.read_block.Statement.{statement}
@@ -25,7 +25,11 @@ loop-less : tie.Need-loop-less Inv-loop μ-loop
 loop-less c = search needs
 
 loop-again : tie.Need-loop-again Inv-loop μ-loop
-loop-again c = search needs
+loop-again c =
+    let inv = c .before .before .before .before .before .before .before .before .before .before .before .before .before .before .before .before .before .loop .inv in
+    let line = c .before .before .before .before .before .before .before .before .before .before .before .before .before .take-line .kept in
+    let rest = c .before .before .before .before .before .before .answer-taken .kept in
+    (search needs, line .1 .1 .1 .0 ∙ inv .1, rest .1 .1 .1 .0 ∙ inv .2, rest .1 .1 .1 .1 .0 ∙ inv .3, rest .1 .1 .1 .1 .1 .0 ∙ inv .4)
 
 same-length : tie.Need-same-length Inv-loop μ-loop
 same-length c = search needs

@@ -9,7 +9,7 @@ use Rattle.octets.specs.Equal.{sameBytes, allDifferent}
 use Rattle.routing_table.specs.View.{view, noEntry, noContact, logsOf}
 use Rattle.routing_table.specs.declared.RoutingTable.{RoutingTable}
 use Rattle.routing_table.proofs.Firsts.{length-firsts}
-use Rattle.routing_table.proofs.Kept.{many-failures, some-same, by-logs}
+use Rattle.routing_table.proofs.Kept.{not-sound, some-same, by-logs}
 use borrow.Author.Needs.{needs}
 use Rattle.routing_table.proofs.surveys.surveyed.Statement.{statement}
 use Rattle.routing_table.proofs.surveys.surveyed.Tie as tie
@@ -28,8 +28,8 @@ long-logs c =
     let long : length (c .logs-of .result) ≡ 145 = search needs in
     length-take-le (end (c .before .before .before .before .before .before .before .before .before .before .args .table)) (c .logs-of .result) (search needs)
 
-few-failures-requires : tie.Need-few-failures-requires
-few-failures-requires c κs = search needs
+sound-requires : tie.Need-sound-requires
+sound-requires c κs = search needs
 
 nothing-requires : tie.Need-nothing-requires
 nothing-requires c κs = search needs
@@ -39,7 +39,7 @@ returns c =
     let t = c .before .before .before .args .table in
     let e = length-firsts noEntry (t .count) (t .entries) in
     let w = length-firsts noContact (t .waiting) (t .replacements) in
-    c .nothing .ensures ∙ sym (many-failures (view t) (c .before .before .before .args .id) (omega arith) (omega arith) (sym (c .before .before .few-failures .ensures) ∙ not-true _ (c .before .if1 .taken)))
+    c .nothing .ensures ∙ sym (not-sound (view t) (c .before .before .before .args .id) (omega arith) (omega arith) (sym (c .before .before .sound .ensures) ∙ not-true _ (c .before .if1 .taken)))
 
 add-middle : tie.Need-add-middle
 add-middle c = search needs
@@ -70,7 +70,7 @@ returns-2 c =
     let one = ap (allDifferent sameBytes) (c .before .before .before .before .ids-of .ensures) in
     c .nothing2 .ensures
     ∙ sym (some-same (view t) (c .before .before .before .before .before .before .before .before .before .before .args .id) (omega arith) (omega arith)
-    (sym (c .before .before .before .before .before .before .before .before .before .few-failures .ensures) ∙ not-false _ (c .before .before .before .before .before .before .before .before .if1 .left))
+    (sym (c .before .before .before .before .before .before .before .before .before .sound .ensures) ∙ not-false _ (c .before .before .before .before .before .before .before .before .if1 .left))
     (sym one ∙ sym (c .before .before .all-different .ensures) ∙ not-true _ (c .before .if2 .taken)))
 
 logs-of-requires : tie.Need-logs-of-requires
@@ -100,14 +100,14 @@ returns-3 c =
     let logs = ap (λ (n : ℕ). take n (c .before .before .logs-of .result)) (sym (long-ids (c .before .before .before .before .before .before))) ∙ c .before .before .logs-of .ensures ∙ ap (logsOf (t .own)) ids in
     c .fitted .ensures (view t) refl ids logs (omega arith)
     ∙ sym (by-logs (view t) (c .before .before .before .before .before .before .before .before .before .before .before .before .args .id) (omega arith) (omega arith)
-    (sym (c .before .before .before .before .before .before .before .before .before .before .before .few-failures .ensures) ∙ not-false _ (c .before .before .before .before .before .before .before .before .before .before .if1 .left))
+    (sym (c .before .before .before .before .before .before .before .before .before .before .before .sound .ensures) ∙ not-false _ (c .before .before .before .before .before .before .before .before .before .before .if1 .left))
     (sym one ∙ sym (c .before .before .before .before .all-different .ensures) ∙ not-false _ (c .before .before .before .if2 .left)))
 
 pub surveyed-spec : {M : Type 1} → statement M
 surveyed-spec =
     tie.close
     (tie.spec
-    few-failures-requires
+    sound-requires
     nothing-requires
     returns
     add-middle

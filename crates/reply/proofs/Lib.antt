@@ -1,0 +1,10 @@
+pub mod Taking
+pub mod Spreading
+pub mod Lends
+pub mod Sending
+pub mod Answers
+pub mod Placed
+pub mod Tables
+pub mod Contents
+pub mod Asking
+pub mod Requests

@@ -1,0 +1,5 @@
+pub mod Carried
+pub mod Inserted
+pub mod Orders
+pub mod Slotted
+pub mod Kept

@@ -228,25 +228,24 @@ fn reply(index: &Index, table: &Table, own: &[u8], message: &[u8], out: &mut [u8
     }
 }
 
+fn random<const N: usize>(seed: u64) -> [u8; N] {
+    let mut state = seed;
+    std::array::from_fn(|_| {
+        state = (state * 1664525 + 1013904223) % 4294967296;
+        (state / 65536 % 256) as u8
+    })
+}
+
 fn id(class: u32, n: u32) -> Id {
     let weight = 128u32 >> class.min(7);
-    let mut id = [0; 32];
-    let mut state = (class * 1000 + n) as u64;
-    for b in &mut id[1..] {
-        state = (state * 1664525 + 1013904223) % 4294967296;
-        *b = (state / 65536 % 256) as u8;
-    }
+    let mut id: Id = random((class * 1000 + n) as u64);
+    id[0] = 0;
     id[1] = (weight + id[1] as u32 % weight) as u8;
     id
 }
 
 fn node_record(kind: u32, n: u32) -> [u8; 300] {
-    let mut state = if kind == 0 { n as u64 * 77 + 5 } else { 7 };
-    let mut bytes = [0; 300];
-    for b in &mut bytes {
-        state = (state * 1664525 + 1013904223) % 4294967296;
-        *b = (state / 65536 % 256) as u8;
-    }
+    let mut bytes = random(if kind == 0 { n as u64 * 77 + 5 } else { 7 });
     bytes[if kind == 1 { 299 } else { 0 }] = (n % 256) as u8;
     bytes
 }

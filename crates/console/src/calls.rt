@@ -126,16 +126,7 @@ fn held(state: State, reply: console_index::Reply) -> Answered {
     let index = reply.index;
     let table = state.table;
     let lent = state.lent;
-    let next = State {
-        index,
-        table,
-        lent,
-        room: state.room,
-    };
-    Answered {
-        state: next,
-        len: reply.len,
-    }
+    going_on(index, table, lent, state.room, reply.len)
 }
 
 // The calls that change the routing table or what is lent to replies, and those that change nothing.
@@ -179,16 +170,7 @@ fn met(state: State, reply: console_routing::Reply) -> Answered {
     let index = state.index;
     let table = reply.table;
     let lent = state.lent;
-    let next = State {
-        index,
-        table,
-        lent,
-        room: state.room,
-    };
-    Answered {
-        state: next,
-        len: reply.len,
-    }
+    going_on(index, table, lent, state.room, reply.len)
 }
 
 // The state with what is lent to replies from now on.
@@ -196,16 +178,18 @@ fn lending(state: State, lending: console_replies::Lending) -> Answered {
     let index = state.index;
     let table = state.table;
     let lent = lending.lent;
-    let next = State {
+    going_on(index, table, lent, state.room, lending.len)
+}
+
+// The state to go on with, of these parts, and the length of the answer.
+fn going_on(index: KeyIndex, table: RoutingTable, lent: Lent, room: usize, len: usize) -> Answered {
+    let state = State {
         index,
         table,
         lent,
-        room: state.room,
+        room,
     };
-    Answered {
-        state: next,
-        len: lending.len,
-    }
+    Answered { state, len }
 }
 
 // buffer N

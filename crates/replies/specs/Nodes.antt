@@ -10,6 +10,7 @@ use Rattle.distance.specs.Distance.{logDistanceOf, askedOf}
 use Rattle.message.specs.Values.{Message, foundNodes}
 use Rattle.message.specs.Encode.{encode}
 use Rattle.routing_table.specs.View.{View}
+use Rattle.routing_table.specs.Good.{recordFits}
 use Rattle.routing_table.specs.declared.Entry.{Entry}
 use Rattle.replies.specs.Groups.{groups}
 use Rattle.replies.specs.Chosen.{nearestBy, entryRecord, once}
@@ -36,7 +37,7 @@ numbered groups = map (foundNodes (length groups)) groups
 
 -- 1 to 300 bytes
 abbrev pub sendable : List ℕ → Bool
-sendable bytes = leb 1 (length bytes) && leb (length bytes) 300
+sendable bytes = recordFits (length bytes)
 
 unfoldable pub nodesReply : View → List ℕ → List ℕ → Outcome (List Message)
 nodesReply v own distances =

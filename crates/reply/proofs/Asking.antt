@@ -1,12 +1,11 @@
 -- What is due to a FindNode: a refusal where our own record is asked for and cannot be sent, else the messages of the records due. Assumes nothing.
-use Prim.Native.Nat.{ℕ, _<_}
-use native.Mathlib.Omega.{arith}
+use Prim.Native.Nat.{ℕ}
 use mathlib.Core.Path.{_≡_, sym, ap, subst, _∙_}
 use mathlib.Core.Bool.{Bool, true, false}
 use mathlib.Core.Logic.{_⊎_, ⊎-elim}
 use mathlib.Core.List.{List, _∷_, map, List·Memᴰ·cases-cons}
 use lib.ListN.{length}
-use borrow.Author.Tests.{le-leb, lt-leb}
+use borrow.Author.Tests.{le-leb}
 use Rattle.refusal.specs.Outcome.{given, refused}
 use Rattle.distance.specs.Distance.{askedOf}
 use Rattle.routing_table.specs.View.{View}
@@ -26,15 +25,10 @@ module _ (v : View) (own distances : List ℕ) where
   abbrev pub askedRecords : List (List ℕ)
   askedRecords = map entryRecord (nearestBy (v .own) (isAsked v distances) v)
 
-  not-sendable : (length own ≡ 0) ⊎ (300 < length own) → sendable own ≡ false
-  not-sendable w =
-      ⊎-elim (λ (e : length own ≡ 0). rw (lt-leb 1 (length own) (omega arith)))
-      (λ (h : 300 < length own). rw (le-leb 1 (length own) (omega arith), lt-leb (length own) 300 h)) w
-
   module _ (asked : Bool) (is : asked ≡ askedOf distances 0) where
-    pub nodes-refused : asked ≡ true → (length own ≡ 0) ⊎ (300 < length own) → nodesReply v own distances ≡ refused 23
+    pub nodes-refused : asked ≡ true → sendable own ≡ false → nodesReply v own distances ≡ refused 23
     unfolding nodesReply
-    nodes-refused e w = rw (sym is ∙ e, not-sendable w)
+    nodes-refused e w = rw (sym is ∙ e, w)
 
     pub nodes-own : asked ≡ true → Sendable own → (rs : List (List ℕ)) → rs ≡ once (own ∷ askedRecords)
         → nodesReply v own distances ≡ given (messagesOf rs)

@@ -16,7 +16,6 @@ use crate::groups;
 use crate::refused;
 use refusal::Refusal;
 use reply_records::Records;
-use routing_table::RECORD;
 use routing_table::RoutingTable;
 
 // Our own record if 0 is asked for, and those of the entries whose log distance is.
@@ -30,7 +29,7 @@ pub(crate) fn nodes(
     ensures { λ r. ⌜ Replies (inRoom (length (now (out .entry))) (nodesReply (view table) (now (own .entry)) (now (distances .entry)))) r (now (out .entry)) (now (out .exit)) ⌝ }
 {
     if distance::asked(distances, 0) {
-        if own.len() == 0 || RECORD < own.len() {
+        if !routing_table::record_fits(own.len()) {
             return refused(Refusal::Unusable);
         }
         return send(reply_records::asked(table, own, distances), out);

@@ -92,13 +92,10 @@ fn with_contact(table: RoutingTable, id: [u8; 32], kind: u32, n: u32) -> Routing
 
 // The second byte in the range that gives the log distance, the first one zero, all else random.
 fn id(class: u32, n: u32) -> [u8; 32] {
-    let mut state = class as u64 * 1000 + n as u64;
-    let mut id = [0u8; 32];
-    for i in 1..32 {
-        state = (state % 4294967296 * 1664525 + 1013904223) % 4294967296;
-        id[i] = (state / 65536 % 256) as u8;
-    }
+    let bytes = random(class as u64 * 1000 + n as u64);
+    let mut id = octets::part32(&bytes, 0);
     let top = weight(class);
+    id[0] = 0;
     id[1] = top | id[1] & (top - 1);
     id
 }
@@ -121,16 +118,22 @@ fn weight(class: u32) -> u8
 
 // The n-th record of a kind.
 fn node_record(kind: u32, n: u32) -> [u8; 300] {
-    let mut state = 7u64;
-    if kind == 0 {
-        state = n as u64 * 77 + 5;
-    }
+    let mut bytes = random(seed(kind, n));
+    bytes[place(kind)] = (n % 256) as u8;
+    bytes
+}
+
+fn seed(kind: u32, n: u32) -> u64 {
+    if kind == 0 { n as u64 * 77 + 5 } else { 7 }
+}
+
+fn random(seed: u64) -> [u8; 300] {
+    let mut state = seed;
     let mut bytes = [0u8; 300];
     for i in 0..300 {
         state = (state % 4294967296 * 1664525 + 1013904223) % 4294967296;
         bytes[i] = (state / 65536 % 256) as u8;
     }
-    bytes[place(kind)] = (n % 256) as u8;
     bytes
 }
 

@@ -1,7 +1,6 @@
 // Hands in indexes and routing tables that no call makes, broken ones and ones that differ in unused places only, and buffers of several
 // lengths, and prints each reply and what it leaves of the buffer.
 mod calls;
-mod tables;
 
 use calls::Setting;
 use console_text::answer;
@@ -57,7 +56,7 @@ fn reach(less: u8) -> [u8; 32] {
 
 fn show_indexes() {
     let ones = [255u8; 32];
-    let some = tables::some();
+    let some = edge_tables::some();
     let near = key(0, 90);
     let far = key(0, 91);
     show(b"two keys", two(), some);
@@ -77,7 +76,7 @@ fn show_indexes() {
 
 fn show_broken_indexes() {
     let ones = [255u8; 32];
-    let some = tables::some();
+    let some = edge_tables::some();
     let near = key(0, 90);
     let far = key(0, 91);
     show(
@@ -107,82 +106,86 @@ fn show_broken_indexes() {
 }
 
 fn show_counts() {
-    let all = tables::most();
-    show(b"no contacts", two(), tables::none());
+    let all = edge_tables::most();
+    show(b"no contacts", two(), edge_tables::none());
     show(b"128 entries and 16 replacements", two(), all);
-    show(b"129 entries", two(), tables::counted(all, 129, 16));
+    show(b"129 entries", two(), edge_tables::counted(all, 129, 16));
     show(
         b"the largest number of entries",
         two(),
-        tables::counted(all, usize::MAX, 16),
+        edge_tables::counted(all, usize::MAX, 16),
     );
-    show(b"17 replacements", two(), tables::counted(all, 128, 17));
+    show(
+        b"17 replacements",
+        two(),
+        edge_tables::counted(all, 128, 17),
+    );
     show(
         b"the largest number of replacements",
         two(),
-        tables::counted(all, 128, usize::MAX),
+        edge_tables::counted(all, 128, usize::MAX),
     );
 }
 
 fn show_logs() {
-    let fifteen = tables::entries(tables::none(), 1, 15);
-    let full = tables::entries(tables::none(), 1, 16);
+    let fifteen = edge_tables::entries(edge_tables::none(), 1, 15);
+    let full = edge_tables::entries(edge_tables::none(), 1, 16);
     show(b"16 entries of one log distance", two(), full);
     show(
         b"17 entries of one log distance",
         two(),
-        tables::entries(tables::none(), 1, 17),
+        edge_tables::entries(edge_tables::none(), 1, 17),
     );
     show(
         b"4 replacements of one log distance",
         two(),
-        tables::replacements(full, 1, 20),
+        edge_tables::replacements(full, 1, 20),
     );
     show(
         b"5 replacements of one log distance",
         two(),
-        tables::replacements(full, 1, 21),
+        edge_tables::replacements(full, 1, 21),
     );
     show(
         b"a replacement where there are 15 entries",
         two(),
-        tables::replacement(fifteen, 1, 16),
+        edge_tables::replacement(fifteen, 1, 16),
     );
 }
 
 fn show_ids() {
-    let some = tables::some();
+    let some = edge_tables::some();
     show(
         b"two entries whose ids differ in one bit",
         two(),
-        tables::entry(some, 4, 1, 3),
+        edge_tables::entry(some, 4, 1, 3),
     );
     show(
         b"two entries with one id",
         two(),
-        tables::entry(some, 4, 0, 0),
+        edge_tables::entry(some, 4, 0, 0),
     );
     show(
         b"two replacements with one id",
         two(),
-        tables::replacement(some, 2, 16),
+        edge_tables::replacement(some, 2, 16),
     );
     show(
         b"an entry and a replacement with one id",
         two(),
-        tables::replacement(some, 2, 3),
+        edge_tables::replacement(some, 2, 3),
     );
     show(
         b"our own id among the entries",
         two(),
-        tables::entry(some, 0, 0, 0),
+        edge_tables::entry(some, 0, 0, 0),
     );
     show(
         b"our own id among the replacements",
         two(),
-        tables::replacement(some, 0, 0),
+        edge_tables::replacement(some, 0, 0),
     );
-    show(b"4 failures", two(), tables::entry(some, 4, 1, 4));
+    show(b"4 failures", two(), edge_tables::entry(some, 4, 1, 4));
 }
 
 fn show_records() {
@@ -215,26 +218,26 @@ fn show_records() {
 
 // A table with an entry more, and one with a replacement more, whose record has so many bytes.
 fn show_record(entry: &[u8], replacement: &[u8], len: usize) {
-    let some = tables::some();
+    let some = edge_tables::some();
     show(
         entry,
         two(),
-        tables::entry_of(some, tables::sized(4, 1, len), 0),
+        edge_tables::entry_of(some, edge_tables::sized(4, 1, len), 0),
     );
     show(
         replacement,
         two(),
-        tables::replacement_of(some, tables::sized(2, 17, len)),
+        edge_tables::replacement_of(some, edge_tables::sized(2, 17, len)),
     );
 }
 
 fn show_both() {
     let ones = [255u8; 32];
-    let some = tables::some();
+    let some = edge_tables::some();
     show(
         b"241 keys and 4 failures",
         index(ones, 0, 241, key(0, 90), key(0, 91)),
-        tables::entry(some, 4, 1, 4),
+        edge_tables::entry(some, 4, 1, 4),
     );
     show(
         b"an index of another node",
@@ -244,41 +247,41 @@ fn show_both() {
 }
 
 fn show_unused() {
-    let some = tables::some();
+    let some = edge_tables::some();
     show(
         b"unused: the ids of an entry and of a replacement",
         two(),
-        tables::unused(tables::replacement(tables::entry(some, 1, 0, 0), 1, 16)),
+        edge_tables::unused(edge_tables::replacement(edge_tables::entry(some, 1, 0, 0), 1, 16)),
     );
     show(
         b"unused: our own id",
         two(),
-        tables::unused(tables::replacement(tables::entry(some, 0, 0, 0), 0, 0)),
+        edge_tables::unused(edge_tables::replacement(edge_tables::entry(some, 0, 0, 0), 0, 0)),
     );
     show(
         b"unused: 255 failures",
         two(),
-        tables::unused(tables::entry(some, 4, 1, 255)),
+        edge_tables::unused(edge_tables::entry(some, 4, 1, 255)),
     );
     show(
         b"unused: records of no bytes",
         two(),
-        tables::unused(tables::one_more(some, 0)),
+        edge_tables::unused(edge_tables::one_more(some, 0)),
     );
     show(
         b"unused: records of the largest length",
         two(),
-        tables::unused(tables::one_more(some, usize::MAX)),
+        edge_tables::unused(edge_tables::one_more(some, usize::MAX)),
     );
     show(
         b"unused: other bytes behind a record",
         two(),
-        tables::other_bytes(some),
+        edge_tables::other_bytes(some),
     );
     show(
         b"unused: 128 entries and 16 replacements",
         two(),
-        tables::counted(tables::most(), 0, 0),
+        edge_tables::counted(edge_tables::most(), 0, 0),
     );
 }
 
@@ -300,7 +303,7 @@ fn show_rooms() {
 }
 
 fn show_room(name: &[u8], room: usize) {
-    let mut setting = calls::all_lent(two(), tables::some());
+    let mut setting = calls::all_lent(two(), edge_tables::some());
     setting.room = room;
     show_replies(name, setting);
 }
@@ -361,7 +364,7 @@ fn show_refusal(name: &[u8], message: &[u8]) {
     let mut out = [0u8; 4096];
     let last = calls::line(
         name,
-        calls::all_lent(two(), tables::some()),
+        calls::all_lent(two(), edge_tables::some()),
         message,
         &mut out,
         0,
@@ -371,7 +374,7 @@ fn show_refusal(name: &[u8], message: &[u8]) {
 
 // Nothing is lent.
 fn show_unusable() {
-    let mut setting = calls::all_lent(two(), tables::some());
+    let mut setting = calls::all_lent(two(), edge_tables::some());
     setting.lent = false;
     show_replies(b"nothing lent", setting);
 }

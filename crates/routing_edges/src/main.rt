@@ -1,6 +1,5 @@
 // Hands in routing tables that no call makes, broken ones and ones that differ in unused places only, and prints what each call answers.
 mod same;
-mod tables;
 
 use console_text::answer;
 use console_text::words;
@@ -22,88 +21,91 @@ fn main() {
 }
 
 fn show_counts() {
-    let all = tables::most();
-    show(b"no contacts", tables::none());
-    show(b"33 entries and 5 replacements", tables::some());
+    let all = edge_tables::most();
+    show(b"no contacts", edge_tables::none());
+    show(b"33 entries and 5 replacements", edge_tables::some());
     show(b"128 entries and 16 replacements", all);
-    show(b"129 entries", tables::counted(all, 129, 16));
+    show(b"129 entries", edge_tables::counted(all, 129, 16));
     show(
         b"the largest number of entries",
-        tables::counted(all, usize::MAX, 16),
+        edge_tables::counted(all, usize::MAX, 16),
     );
-    show(b"17 replacements", tables::counted(all, 128, 17));
+    show(b"17 replacements", edge_tables::counted(all, 128, 17));
     show(
         b"the largest number of replacements",
-        tables::counted(all, 128, usize::MAX),
+        edge_tables::counted(all, 128, usize::MAX),
     );
 }
 
 fn show_logs() {
-    let fifteen = tables::entries(tables::none(), 1, 15);
-    let full = tables::entries(tables::none(), 1, 16);
+    let fifteen = edge_tables::entries(edge_tables::none(), 1, 15);
+    let full = edge_tables::entries(edge_tables::none(), 1, 16);
     show(b"16 entries of one log distance", full);
     show(
         b"17 entries of one log distance",
-        tables::entries(tables::none(), 1, 17),
+        edge_tables::entries(edge_tables::none(), 1, 17),
     );
     show(
         b"4 replacements of one log distance",
-        tables::replacements(full, 1, 20),
+        edge_tables::replacements(full, 1, 20),
     );
     show(
         b"5 replacements of one log distance",
-        tables::replacements(full, 1, 21),
+        edge_tables::replacements(full, 1, 21),
     );
     show(
         b"a replacement where there are 15 entries",
-        tables::replacement(fifteen, 1, 16),
+        edge_tables::replacement(fifteen, 1, 16),
     );
     show(
         b"a replacement alone",
-        tables::replacement(tables::none(), 1, 16),
+        edge_tables::replacement(edge_tables::none(), 1, 16),
     );
 }
 
 // Our own id among the replacements breaks another rule too: no other id has its log distance.
 fn show_ids() {
-    let some = tables::some();
+    let some = edge_tables::some();
     show(
         b"two entries whose ids differ in one bit",
-        tables::entry(some, 4, 1, 0),
+        edge_tables::entry(some, 4, 1, 0),
     );
-    show(b"two entries with one id", tables::entry(some, 4, 0, 0));
+    show(
+        b"two entries with one id",
+        edge_tables::entry(some, 4, 0, 0),
+    );
     show(
         b"two replacements with one id",
-        tables::replacement(some, 2, 16),
+        edge_tables::replacement(some, 2, 16),
     );
     show(
         b"an entry and a replacement with one id",
-        tables::replacement(some, 2, 3),
+        edge_tables::replacement(some, 2, 3),
     );
     show(
         b"our own id among the entries",
-        tables::entry(some, 0, 0, 0),
+        edge_tables::entry(some, 0, 0, 0),
     );
     show(
         b"our own id among the replacements",
-        tables::replacement(some, 0, 0),
+        edge_tables::replacement(some, 0, 0),
     );
 }
 
 fn show_failures() {
-    let some = tables::some();
-    show(b"3 failures", tables::entry(some, 4, 1, 3));
-    show(b"4 failures", tables::entry(some, 4, 1, 4));
-    show(b"255 failures", tables::entry(some, 4, 1, 255));
+    let some = edge_tables::some();
+    show(b"3 failures", edge_tables::entry(some, 4, 1, 3));
+    show(b"4 failures", edge_tables::entry(some, 4, 1, 4));
+    show(b"255 failures", edge_tables::entry(some, 4, 1, 255));
     show(
         b"4 failures of the first entry",
-        tables::entry(tables::entry(tables::none(), 4, 1, 4), 1, 0, 0),
+        edge_tables::entry(edge_tables::entry(edge_tables::none(), 4, 1, 4), 1, 0, 0),
     );
 }
 
 fn show_records() {
-    let none = tables::none();
-    let full = tables::entries(none, 1, 16);
+    let none = edge_tables::none();
+    let full = edge_tables::entries(none, 1, 16);
     show_record(
         b"an entry with a record of 1 byte",
         b"a replacement with a record of 1 byte",
@@ -131,53 +133,65 @@ fn show_records() {
     );
     show(
         b"a record of no bytes in the first entry",
-        tables::entry(tables::entry_of(none, tables::sized(4, 1, 0), 0), 1, 0, 0),
+        edge_tables::entry(
+            edge_tables::entry_of(none, edge_tables::sized(4, 1, 0), 0),
+            1,
+            0,
+            0,
+        ),
     );
     show(
         b"a record of no bytes in the first replacement",
-        tables::replacement(tables::replacement_of(full, tables::sized(1, 16, 0)), 1, 17),
+        edge_tables::replacement(
+            edge_tables::replacement_of(full, edge_tables::sized(1, 16, 0)),
+            1,
+            17,
+        ),
     );
 }
 
 // A table with an entry more, and one with a replacement more, whose record has so many bytes.
 fn show_record(entry: &[u8], replacement: &[u8], len: usize) {
-    let some = tables::some();
-    show(entry, tables::entry_of(some, tables::sized(4, 1, len), 0));
+    let some = edge_tables::some();
+    show(
+        entry,
+        edge_tables::entry_of(some, edge_tables::sized(4, 1, len), 0),
+    );
     show(
         replacement,
-        tables::replacement_of(some, tables::sized(2, 17, len)),
+        edge_tables::replacement_of(some, edge_tables::sized(2, 17, len)),
     );
 }
 
 fn show_unused() {
-    let some = tables::some();
+    let some = edge_tables::some();
     show(
         b"unused: the ids of an entry and of a replacement",
-        tables::unused(tables::replacement(tables::entry(some, 1, 0, 0), 1, 16)),
+        edge_tables::unused(edge_tables::replacement(edge_tables::entry(some, 1, 0, 0), 1, 16)),
     );
     show(
         b"unused: our own id",
-        tables::unused(tables::replacement(tables::entry(some, 0, 0, 0), 0, 0)),
+        edge_tables::unused(edge_tables::replacement(edge_tables::entry(some, 0, 0, 0), 0, 0)),
     );
     show(
         b"unused: 255 failures",
-        tables::unused(tables::entry(some, 4, 1, 255)),
+        edge_tables::unused(edge_tables::entry(some, 4, 1, 255)),
     );
     show(
         b"unused: records of no bytes",
-        tables::unused(tables::one_more(some, 0)),
+        edge_tables::unused(edge_tables::one_more(some, 0)),
     );
     show(
         b"unused: records of the largest length",
-        tables::unused(tables::one_more(some, usize::MAX)),
+        edge_tables::unused(edge_tables::one_more(some, usize::MAX)),
     );
     show(
         b"unused: a 17th entry and a 5th replacement of one log distance",
-        tables::unused(tables::replacement(tables::entry(some, 1, 20, 0), 1, 21)),
+        edge_tables::unused(edge_tables::replacement(edge_tables::entry(some, 1, 20, 0), 1, 21)),
     );
     show(
         b"unused: 128 entries and 16 replacements",
-        tables::counted(tables::most(), 0, 0),
+        edge_tables::counted(edge_tables::most(), 0, 0),
     );
 }
 
@@ -190,28 +204,28 @@ fn show(name: &[u8], table: RoutingTable) {
     let newcomer = seen_line(
         b"a newcomer",
         table,
-        tables::contact(4, 200),
+        edge_tables::contact(4, 200),
         &mut out,
         found,
     );
     let stranger = seen_line(
         b"a stranger",
         table,
-        tables::contact(200, 200),
+        edge_tables::contact(200, 200),
         &mut out,
         newcomer,
     );
     let neighbour = seen_line(
         b"a neighbour",
         table,
-        tables::contact(0, 200),
+        edge_tables::contact(0, 200),
         &mut out,
         stranger,
     );
     let own = seen_line(
         b"our own id",
         table,
-        tables::contact(0, 0),
+        edge_tables::contact(0, 0),
         &mut out,
         neighbour,
     );
@@ -227,14 +241,14 @@ fn record_lines(table: RoutingTable, out: &mut [u8], from: usize) -> usize {
     let own = seen_line(
         b"our own id with a record of the largest length",
         table,
-        tables::sized(0, 0, usize::MAX),
+        edge_tables::sized(0, 0, usize::MAX),
         out,
         from,
     );
     seen_line(
         b"a newcomer with a record of no bytes",
         table,
-        tables::sized(4, 200, 0),
+        edge_tables::sized(4, 200, 0),
         out,
         own,
     )
@@ -249,7 +263,7 @@ fn number_line(why: Refusal, out: &mut [u8], from: usize) -> usize {
 
 fn find_line(table: RoutingTable, out: &mut [u8], from: usize) -> usize {
     let at = answer::text(out, from, b"  find the first: ");
-    let asked = routing_table::find(table, tables::id(1, 0));
+    let asked = routing_table::find(table, edge_tables::id(1, 0));
     let contact = asked.contact;
     let said = fields_word(same::is_zeros(contact), asked.failures, out, at);
     let how = asked.found;
@@ -305,7 +319,7 @@ fn failed_line(
     from: usize,
 ) -> usize {
     let at = call_word(b"  failed ", name, out, from);
-    let done = routing_calls::failed(table, tables::id(a, b));
+    let done = routing_calls::failed(table, edge_tables::id(a, b));
     let next = done.table;
     let failure = done.failure;
     let said = kept_word(table, next, out, at);

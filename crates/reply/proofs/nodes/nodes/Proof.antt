@@ -1,19 +1,16 @@
 -- `nodes::nodes` meets its contract: whether 0 is asked for decides on our own record; the records copied are those due, and are sent. Assumes nothing.
-use Prim.Native.Nat.{_<_}
-use native.Mathlib.Omega.{arith}
-use mathlib.Core.Path.{_≡_, ap}
-use mathlib.Core.Logic.{_⊎_, inl, inr, ⊎-elim}
+use mathlib.Core.Path.{_≡_, sym, ap, _∙_}
 use mathlib.Core.List.{_∷_}
-use lib.ListN.{length}
 use borrow.Author.Needs.{needs}
-use borrow.Author.Tests.{ltb-true, ltb-false}
+use borrow.Author.Tests.{not-true, not-false}
 use Rattle.refusal.specs.declared.Refusal.the-variants.{Unusable}
 use Rattle.routing_table.specs.View.{view}
 use Rattle.replies.specs.Chosen.{once}
-use Rattle.replies.specs.Nodes.{isAsked}
+use Rattle.replies.specs.Nodes.{isAsked, sendable}
 use Rattle.replies.specs.Reply.{inRoom}
 use Rattle.replies.proofs.Once.{Sendable}
 use Rattle.reply_records.specs.Records.{Holds}
+use Rattle.reply_records.proofs.Slotted.{sendable-is}
 use Rattle.reply.proofs.Answers.{replies-as, refused-replies}
 use Rattle.reply.proofs.Placed.{holds-found}
 use Rattle.reply.proofs.Tables.{records-send, copied, copied-own}
@@ -21,17 +18,16 @@ use Rattle.reply.proofs.Asking.{with-own, askedRecords, nodes-refused, 
 use Rattle.reply.proofs.nodes.nodes.Statement.{statement}
 use Rattle.reply.proofs.nodes.nodes.Tie as tie
 
--- our own record cannot be sent
-way : (c : tie.Joined2)
-    → (length (c .before .before .before .before .before .before .args .own .now) ≡ 0) ⊎ (300 < length (c .before .before .before .before .before .before .args .own .now))
-way c = ⊎-elim (λ w. inl (omega arith)) (λ w. inr (omega (arith, ltb-true))) (c .if2 .came)
-
--- it can, and is the first of the records copied
+-- our own record can be sent, and is the first of the records copied
 abbrev start : tie.After-asked2 → tie.Start
 start c = c .before .before .before .before .before .before .before .before
 
 own-sends : (c : tie.After-asked2) → Sendable (start c .args .own .now)
-own-sends c = (omega arith, omega (arith, ltb-false))
+own-sends c =
+    let fits = c .before .before .record-fits in
+    let own = start c .args .own .now in
+    let tested : fits .result ≡ sendable own = search needs in
+    sendable-is own (sym tested ∙ not-false (fits .result) (c .before .if2 .left))
 
 own-holds : (c : tie.After-asked2)
     → Holds (once (start c .args .own .now ∷ askedRecords (view (start c .args .table)) (start c .args .own .now) (start c .args .distances .now))) (c .asked2 .result)
@@ -53,14 +49,19 @@ holds c =
 asked-requires : tie.Need-asked-requires
 asked-requires c κs = search needs
 
+record-fits-requires : tie.Need-record-fits-requires
+record-fits-requires c κs = search needs
+
 refused-requires : tie.Need-refused-requires
 refused-requires c κs = search needs
 
 returns : tie.Need-returns
 returns c =
-    let from = c .before .before .before .before .before .before .before in
+    let from = c .before .before .before .before .before .before .before .before in
+    let fits = c .before .before .record-fits in
+    let tested : fits .result ≡ sendable (from .args .own .now) = search needs in
     refused-replies {right = Unusable} (from .args .out .now) (c .refused .ensures) (search needs)
-    (ap (inRoom _) (nodes-refused _ (from .args .own .now) _ _ (c .before .before .before .asked .ensures) (c .before .before .if1 .taken) (way (c .before))))
+    (ap (inRoom _) (nodes-refused _ (from .args .own .now) _ _ (c .before .before .before .before .asked .ensures) (c .before .before .before .if1 .taken) (sym tested ∙ not-true (fits .result) (c .before .if2 .taken))))
 
 asked-requires-2 : tie.Need-asked-requires-2
 asked-requires-2 c κs = search needs
@@ -102,6 +103,7 @@ nodes-spec =
     tie.close
     (tie.spec
     asked-requires
+    record-fits-requires
     refused-requires
     returns
     asked-requires-2

@@ -1,4 +1,4 @@
-// Tables around one own id, made place by place, so that they may break any rule.
+// Routing tables around one own id, made place by place, so that they may break any rule: for the programs that hand them in.
 use routing_table::Contact;
 use routing_table::ENTRIES;
 use routing_table::Entry;
@@ -14,22 +14,23 @@ pub fn id(a: u8, b: u8) -> [u8; 32] {
     id
 }
 
+// The contact with that id and a record of two bytes, a and b.
 pub fn contact(a: u8, b: u8) -> Contact {
+    sized(a, b, 2)
+}
+
+// The contact with a record of so many bytes, whatever its array has: a, b, and then a.
+pub fn sized(a: u8, b: u8, len: usize) -> Contact {
+    let mut enr = [a; RECORD];
+    enr[1] = b;
     Contact {
         id: id(a, b),
         radius: [b; 32],
         address: [10, 0, a, b],
         port: 9009,
-        len: 1 + octets::wide(b),
-        enr: [a; RECORD],
+        len,
+        enr,
     }
-}
-
-// The contact with a record of so many bytes, whatever its array has.
-pub fn sized(a: u8, b: u8, len: usize) -> Contact {
-    let mut made = contact(a, b);
-    made.len = len;
-    made
 }
 
 pub fn none() -> RoutingTable {
@@ -120,4 +121,20 @@ pub fn unused(table: RoutingTable) -> RoutingTable {
 pub fn one_more(table: RoutingTable, len: usize) -> RoutingTable {
     let more = entry_of(table, sized(4, 1, len), 0);
     replacement_of(more, sized(2, 17, len))
+}
+
+// The table with other bytes behind the record of its first entry.
+pub fn other_bytes(table: RoutingTable) -> RoutingTable {
+    let first = table.entries[0];
+    let mut contact = first.contact;
+    let mut enr = contact.enr;
+    enr[2] = 9;
+    enr[299] = 9;
+    contact.enr = enr;
+    let mut next = table;
+    next.entries[0] = Entry {
+        contact,
+        failures: first.failures,
+    };
+    next
 }

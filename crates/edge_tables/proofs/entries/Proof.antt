@@ -1,8 +1,8 @@
--- `routing_edges::tables::entries` is safe and ends. Assumes nothing.
+-- `edge_tables::entries` is safe and ends. Assumes nothing.
 use Prim.Native.Nat.{_-_}
 use borrow.Author.Needs.{needs}
-use Rattle.routing_edges.proofs.tables.entries.Statement.{statement}
-use Rattle.routing_edges.proofs.tables.entries.Tie as tie
+use Rattle.edge_tables.proofs.entries.Statement.{statement}
+use Rattle.edge_tables.proofs.entries.Tie as tie
 
 abbrev Inv-loop : tie.InvT-loop
 Inv-loop a n next₀ b₀ next b = Unit {0}

@@ -1,8 +1,8 @@
--- `reply_edges::tables::replacements` is safe and ends. Assumes nothing.
+-- `edge_tables::replacements` is safe and ends. Assumes nothing.
 use Prim.Native.Nat.{_-_}
 use borrow.Author.Needs.{needs}
-use Rattle.reply_edges.proofs.tables.replacements.Statement.{statement}
-use Rattle.reply_edges.proofs.tables.replacements.Tie as tie
+use Rattle.edge_tables.proofs.replacements.Statement.{statement}
+use Rattle.edge_tables.proofs.replacements.Tie as tie
 
 abbrev Inv-loop : tie.InvT-loop
 Inv-loop a n next₀ b₀ next b = Unit {0}

@@ -4,8 +4,9 @@
 #include <string.h>
 #include <stdint.h>
 static int value(int c) { if (c >= '0' && c <= '9') return c - '0'; if (c >= 'a' && c <= 'f') return c - 'a' + 10; return -1; }
-static uint8_t reversed(uint8_t b) { uint8_t r = 0; for (int i = 0; i < 8; i++) r |= ((b >> i) & 1) << (7 - i); return r; }
+static uint8_t reversed[256];
 int main(void) {
+    for (int b = 0; b < 256; b++) for (int i = 0; i < 8; i++) reversed[b] |= ((b >> i) & 1) << (7 - i);
     char *line = NULL; size_t cap = 0; ssize_t n;
     static const char digits[] = "0123456789abcdef";
     while ((n = getline(&line, &cap, stdin)) >= 0) {
@@ -22,7 +23,7 @@ int main(void) {
         if (key[0] > 1) { fputs("refused 8\n", stdout); continue; }
         uint8_t id[32] = {0};
         id[0] = key[2]; id[1] = key[1];
-        for (int i = 0; i < 6; i++) id[2 + i] = reversed(key[3 + i]);
+        for (int i = 0; i < 6; i++) id[2 + i] = reversed[key[3 + i]];
         id[31] = key[0];
         char out[65];
         for (int i = 0; i < 32; i++) { out[2 * i] = digits[id[i] >> 4]; out[2 * i + 1] = digits[id[i] & 15]; }

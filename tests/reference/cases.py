@@ -21,6 +21,11 @@ def good_keys(stream, random):
     return keys
 
 
+def table_keys():
+    """Each byte in each place of a block number once, so that each entry of the table of reversed bytes is used in each of six places."""
+    return [bytes([b % 2]) + bytes((b + 37 * place) % 256 for place in range(8)) for b in range(256)]
+
+
 def bad_keys(stream):
     """Keys of every wrong length up to 20, of a long one, and with other selectors."""
     keys = [stream.take(n) for n in range(21) if n != 9] + [stream.take(3000)]
@@ -29,7 +34,7 @@ def bad_keys(stream):
 
 def lister_input():
     stream = Stream('lister')
-    lines = [k.hex().encode() for k in good_keys(stream, 300) + bad_keys(stream)]
+    lines = [k.hex().encode() for k in good_keys(stream, 300) + bad_keys(stream) + table_keys()]
     good = make_key(1, 12345678).hex().encode()
     lines += [b'', b'0', good[:-1], good + b'0', good.upper(), b' ' + good, good + b' ', good + b'\r', b'0x' + good, good[:9] + b'\0' + good[10:]]
     # every character in place of one digit

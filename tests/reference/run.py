@@ -2,7 +2,8 @@
 """The second program: computes what the programs must answer, from the papers alone.
 
 usage: run.py make     write the stored inputs and outputs of the programs
-       run.py check    say whether what is stored is what this program computes
+       run.py check    say whether what is stored is what this program computes, and whether the printed table of reversed
+                       bytes says what it should
 """
 import sys
 from pathlib import Path
@@ -12,6 +13,7 @@ import console
 import index_edges
 import lister
 import reply_edges
+import reversal
 import routing_edges
 import write_edges
 
@@ -43,7 +45,10 @@ def main():
             print('not what the second program computes:', path.relative_to(CRATES.parent))
             wrong += 1
     if sys.argv[1] == 'check':
-        print('second program: %s' % ('all stored files agree' if wrong == 0 else '%d files differ' % wrong))
+        for fault in reversal.faults((CRATES / 'content_key' / 'src' / 'reversed_bytes.rt').read_text()):
+            print('content_key/src/reversed_bytes.rt:', fault)
+            wrong += 1
+        print('second program: %s' % ('all stored files agree, and so does the printed table' if wrong == 0 else '%d faults' % wrong))
     sys.exit(wrong != 0)
 
 

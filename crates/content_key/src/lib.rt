@@ -1,10 +1,11 @@
 // Content keys of the History Network: a key from any bytes, its content id, and the interest test.
 ghost use mathlib.Core.Path.{_≡_};
 ghost use Rattle.refusal.specs.Outcome.{outcome, orZeros};
-ghost use Rattle.content_key.specs.Id.{reverseBits};
 ghost use Rattle.content_key.specs.Key.{keyOf, keyId, contentIdOf, interestedIn, interestOf};
 use refusal::Checked;
 use refusal::Refusal;
+
+mod reversed_bytes;
 
 // A key of nine bytes where the input is one, and zeros beside the refusal where it is not.
 pub struct KeyAnswer {
@@ -49,19 +50,20 @@ pub fn key(bytes: &[u8]) -> KeyAnswer
 }
 
 // The content id of a key: the two lightest bytes of the block number, heavier one first, then its six others, lightest first, each
-// with its bits in reversed order.
+// with its bits in reversed order. Why those six are 48 bits in reversed order: see `reversed_bytes`.
 pub fn id(key: [u8; 9]) -> [u8; 32]
     ensures { λ r. ⌜ r ≡ keyId key ⌝ }
 {
+    let table = reversed_bytes::table();
     let mut id = [0u8; 32];
     id[0] = key[2];
     id[1] = key[1];
-    id[2] = reversed(key[3]);
-    id[3] = reversed(key[4]);
-    id[4] = reversed(key[5]);
-    id[5] = reversed(key[6]);
-    id[6] = reversed(key[7]);
-    id[7] = reversed(key[8]);
+    id[2] = table[key[3] as usize];
+    id[3] = table[key[4] as usize];
+    id[4] = table[key[5] as usize];
+    id[5] = table[key[6] as usize];
+    id[6] = table[key[7] as usize];
+    id[7] = table[key[8] as usize];
     id[31] = key[0];
     id
 }
@@ -109,19 +111,4 @@ pub fn interested(node: [u8; 32], radius: [u8; 32], bytes: &[u8]) -> Interest
         }
         Checked::Refused(why) => Interest::Refused(why),
     }
-}
-
-// A byte with its bits in reversed order.
-fn reversed(b: u8) -> u8
-    ensures { λ r. ⌜ r ≡ reverseBits 8 b ⌝ }
-{
-    let b1 = b / 2;
-    let b2 = b1 / 2;
-    let b3 = b2 / 2;
-    let b4 = b3 / 2;
-    let b5 = b4 / 2;
-    let b6 = b5 / 2;
-    let b7 = b6 / 2;
-    let heavy = b % 2 * 128 + b1 % 2 * 64 + b2 % 2 * 32 + b3 % 2 * 16;
-    heavy + b4 % 2 * 8 + b5 % 2 * 4 + b6 % 2 * 2 + b7 % 2
 }

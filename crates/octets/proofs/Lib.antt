@@ -5,3 +5,4 @@ pub mod Order
 pub mod Pairs
 pub mod Parts
 pub mod Flags
+pub mod Tables

@@ -3,3 +3,4 @@ pub mod Equal
 pub mod Order
 pub mod Parts
 pub mod Buffer
+pub mod Table

@@ -6,7 +6,7 @@ use mathlib.Core.Path.{_≡_, refl, sym, ap, ap₂, subst, _∙_}
 use mathlib.Core.Bool.{Bool, true, false, _||_}
 use mathlib.Core.List.{List, [], _∷_, _++_, append-assoc}
 use lib.Dec.{leb}
-use lib.ListN.{length, getD, take, drop, set, take-append-drop, length-append, length-drop, length-map, length-set, List·getD-map}
+use lib.ListN.{length, getD, take, drop, set, take-append-drop, length-append, length-drop, length-set}
 use lib.Seq.{take-all, length-take-le, take-at, drop-at, getD-set-same, getD-set-other, take-append-le, drop-append-le}
 use borrow.Author.Tests.{leb-true}
 use Rattle.message.proofs.Tests.{both}
@@ -14,32 +14,19 @@ use Rattle.octets.specs.Equal.{sameBytes, holds}
 use Rattle.octets.specs.Buffer.{placed}
 use Rattle.octets.proofs.Buffers.{placed-room}
 use Rattle.octets.proofs.Equal.{holds-left, holds-end}
+use Rattle.octets.proofs.Tables.{table-length, entry-at}
 use Rattle.message.specs.Reading.{partAt, recordsAt}
 use Rattle.message_rules.proofs.Places.{records-length, record-at}
 use Rattle.replies.specs.Nodes.{sendable}
-use Rattle.reply_records.specs.Order.{numbersFrom}
 use Rattle.reply_records.specs.Records.{slots, slotted, Slots, Keeps}
-
-number-at : (i n k : ℕ) → k < n → getD (numbersFrom i n) k 0 ≡ i + k
-unfolding numbersFrom
-number-at i zero k h = absurd (omega arith)
-number-at i (suc n) zero h = omega arith
-number-at i (suc n) (suc k) h = number-at (suc i) n k (omega arith) ∙ omega arith
-
-numbers-length : (i n : ℕ) → length (numbersFrom i n) ≡ n
-unfolding numbersFrom
-numbers-length i zero = refl
-numbers-length i (suc n) = ap suc (numbers-length (suc i) n)
 
 pub slot-at : (i : ℕ) → i < 129 → getD slots i 0 ≡ 300 * i
 unfolding slots
-slot-at i h =
-    List·getD-map (λ (k : ℕ). 300 * k) (numbersFrom 0 129) i 0
-    ∙ ap (λ (k : ℕ). 300 * k) (number-at 0 129 i h ∙ omega arith)
+slot-at i h = entry-at (λ (k : ℕ). 300 * k) 129 i h
 
 pub slots-length : length slots ≡ 129
 unfolding slots
-slots-length = length-map (numbersFrom 0 129) (λ (k : ℕ). 300 * k) ∙ numbers-length 0 129
+slots-length = table-length (λ (k : ℕ). 300 * k) 129
 
 -- a part that ends before a place does not change with what stands from there on
 part-front : (b q : List ℕ) (m a n : ℕ) → m ≤ length b → a + n ≤ m → partAt (take m b ++ q) a n ≡ partAt b a n

@@ -5,17 +5,18 @@ use mathlib.Core.Bool.{cond}
 use mathlib.Core.List.{List, [], _∷_, _++_, map}
 use lib.ListN.{length, getD, take}
 use Rattle.octets.specs.Equal.{sameBytes, holds}
+use Rattle.octets.specs.Table.{tableOf}
 use Rattle.message.specs.Reading.{recordsAt}
 use Rattle.routing_table.specs.View.{View}
 use Rattle.replies.specs.Chosen.{chosen, entryRecord, once}
 use Rattle.replies.specs.Nodes.{sendable}
-use Rattle.reply_records.specs.Order.{entryAt, numbersFrom}
+use Rattle.reply_records.specs.Order.{entryAt}
 use Rattle.reply_records.specs.declared.Records.{Records}
 use Rattle.reply_records.specs.declared.order.Order.{Order}
 
 -- where the slots start
 unfoldable pub slots : List ℕ
-slots = map (λ (i : ℕ). 300 * i) (numbersFrom 0 129)
+slots = tableOf (λ (i : ℕ). 300 * i) 129
 
 -- the first n records, each in its slot
 abbrev pub slotted : List ℕ → List ℕ → ℕ → List (List ℕ)

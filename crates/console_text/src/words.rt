@@ -60,6 +60,11 @@ pub fn front(s: &[u8], n: usize) -> &[u8] {
     if n <= s.len() { &s[..n] } else { &s[..0] }
 }
 
+// The elements after the first n, or none where there are fewer.
+pub fn back(s: &[u8], n: usize) -> &[u8] {
+    if n <= s.len() { &s[n..] } else { &s[..0] }
+}
+
 // The part at a place, or nothing where it is not inside.
 pub fn part(s: &[u8], start: usize, len: usize) -> &[u8] {
     if start <= s.len() {

@@ -1,6 +1,5 @@
 -- The id of a key byte by byte: the two lightest bytes of the number, heavier one first, then the six others, lightest first, each
--- reversed.
--- Assumes nothing.
+-- reversed, as the definition has it and as the table has it. Assumes nothing.
 use mathlib.Core.Path.{_≡_, refl, sym, _∙_, ap, subst⁻¹}
 use mathlib.Core.List.{List, [], _∷_, _++_, map}
 use Prim.Native.Nat.{ℕ, _+_, _*_, _/_, _%_, _<_}

@@ -8,7 +8,7 @@ use mathlib.Core.Path.{_≡_, refl, sym, ap, _∙_}
 use mathlib.Core.Bool.{true}
 use mathlib.Core.Option.{none}
 use mathlib.Core.Logic.{_↔_}
-use mathlib.Core.List.{List, [], _∷_, List·Memᴰ·head as here, List·Memᴰ·tail as there}
+use mathlib.Core.List.{List}
 use lib.ListN.{length}
 use Rattle.octets.specs.Bytes.{be}
 use Rattle.refusal.specs.Outcome.{Outcome, given, refusal}
@@ -16,13 +16,12 @@ use Rattle.content_key.specs.Key.{selectorOf, keyOf}
 use Rattle.content_key.proofs.Keys.{key-given}
 use Rattle.rlp.specs.Content.{contentOf}
 use Rattle.rlp.specs.declared.Payload.{Payload}
-use Rattle.nearest.specs.Sorted.{_among_}
 use Rattle.runs.specs.Views.{View, Good, radius, Gives}
 use Rattle.runs.specs.Done.{Admitted}
 use Rattle.runs.proofs.Views.{radius-room, radius-full}
 use Rattle.key_index.specs.Good.{awayFrom, good, lastOf, radiusOf}
-use Rattle.key_index.specs.Keys.{Each, NineBytes}
-use Rattle.key_index.proofs.Each.{each-member}
+use Rattle.key_index.specs.Keys.{NineBytes}
+use Rattle.key_index.proofs.Each.{each-member, each-all}
 use Rattle.key_index.proofs.Rules.{good-facts, facts-good}
 use Rattle.key_store.specs.Cases.{OfBytes}
 use Rattle.key_store.proofs.Facts.{sorted-near, near-sorted, last-apart, reach-room, reach-full}
@@ -33,11 +32,6 @@ use Rattle.snapshot.proofs.RoundTrip.{loaded-written, accepted-iff}
 use Rattle.demands.specs.Box.{Owner, ValidKey, Raw, grouped, spread, faultIn, viewIn}
 use Rattle.demands.specs.Setting.{box}
 use Rattle.demands.proofs.Laws.{key-is, laws}
-
--- a fact of each key, from one of each that is held
-each-of : (P : List ℕ → Type 0) (ks : List (List ℕ)) → ((k : List ℕ) → k among ks → P k) → Each P ks
-each-of P [] h = tt
-each-of P (k ∷ ks) h = (h k (here refl), each-of P ks (λ j m. h j (there m)))
 
 -- keys count as one where they are equal
 pub equal : (j k : List ℕ) → (j ≡ k) ↔ (j ≡ k)
@@ -71,7 +65,7 @@ module _ (v : View box) where
     node-bytes = g .validOwner .node-bytes;
     cap-size = g .validOwner .cap-size;
     cap-bytes = g .validOwner .cap-bytes;
-    nine = each-of NineBytes (v .keys) (λ k m. g .validKeys k m .nine);
+    nine = each-all NineBytes (v .keys) (λ k m. g .validKeys k m .nine);
   }
 
   -- and passes the test behind number 0;
@@ -81,9 +75,9 @@ module _ (v : View box) where
       (record {
         few = g .most;
         each = record {
-          selectors = each-of (λ (k : List ℕ). selectorOf k ≤ 1) (v .keys) (λ k m. g .validKeys k m .selector);
+          selectors = each-all (λ (k : List ℕ). selectorOf k ≤ 1) (v .keys) (λ k m. g .validKeys k m .selector);
           sorted = near-sorted (v .owner .node) 0 (v .keys) (g .sorted);
-          within = each-of (λ (k : List ℕ). awayFrom (v .owner .node) k ≤ be (v .owner .cap)) (v .keys) (g .within);
+          within = each-all (λ (k : List ℕ). awayFrom (v .owner .node) k ≤ be (v .owner .cap)) (v .keys) (g .within);
         };
       })
 

@@ -3,7 +3,7 @@
 use Prim.Native.Nat.{ℕ, _+_, _≤_, _<_}
 use native.Mathlib.Omega.{arith}
 use mathlib.Core.Path.{_≡_, refl, ap, _∙_}
-use mathlib.Core.Bool.{Bool, true, false, _&&_, _||_, and-eq-true-iff}
+use mathlib.Core.Bool.{Bool, true, false, _&&_, _||_, and-eq-true-iff, and-false}
 use mathlib.Core.Logic.{_↔_}
 use mathlib.Core.List.{List, [], _∷_, _++_, List·Memᴰ}
 use lib.Dec.{eqb, leb}
@@ -32,11 +32,7 @@ module _ (ds : List ℕ) (log i : ℕ) where
   pub asked-end : length ds ≤ i → holds eqb log ds ≡ holds eqb log (drop i ds) → askedOf ds log ≡ false
   asked-end h rest =
       let none : holds eqb log ds ≡ false = rest ∙ holds-end eqb log ds i h in
-      rw none (go (leb log 255))
-    where
-      go : (t : Bool) → (t && false) ≡ false
-      go true = refl
-      go false = refl
+      rw none (and-false (leb log 255))
 
 equal : (m n : ℕ) → (eqb m n ≡ true) ↔ (m ≡ n)
 equal m n = (eqb-true m n, eq-eqb m n)

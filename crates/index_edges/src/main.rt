@@ -172,16 +172,11 @@ fn save_line(index: KeyIndex, out: &mut [u8], from: usize) -> usize {
 // Whether the buffer behind the first n bytes is as it was.
 fn rest_word(buffer: &[u8], n: usize, out: &mut [u8], at: usize) -> usize {
     let before = [7u8; 5200];
-    if check::same(back(buffer, n), back(&before, n)) {
+    if check::same(words::back(buffer, n), words::back(&before, n)) {
         answer::text(out, at, b"all else as it was, ")
     } else {
         answer::text(out, at, b"another buffer, ")
     }
-}
-
-// What comes after the first n elements.
-fn back(s: &[u8], n: usize) -> &[u8] {
-    if n <= s.len() { &s[n..] } else { &s[..0] }
 }
 
 // Reloads a text that some index has, and saves what it gives.

@@ -1,23 +1,17 @@
 -- The rules of an index, as facts: intro and elim for the Bool `good`, by recursion on the keys. Assumes nothing.
 use Prim.Native.Nat.{ℕ, suc}
-use mathlib.Core.Path.{_≡_, refl, sym, ap₂}
-use mathlib.Core.Bool.{Bool, true, false, _&&_, true≢false}
+use mathlib.Core.Path.{_≡_, refl}
+use mathlib.Core.Bool.{true, _&&_}
 use mathlib.Core.List.{List, [], _∷_}
 use lib.Dec.{leb}
 use lib.ListN.{length}
 use borrow.Author.Tests.{leb-true, le-leb}
 use Rattle.octets.specs.Bytes.{be}
+use Rattle.octets.proofs.Tests.{both, join}
 use Rattle.content_key.specs.Key.{selectorOf}
 use Rattle.key_index.specs.View.{View}
 use Rattle.key_index.specs.Good.{awayFrom, goodFrom, good}
 use Rattle.key_index.specs.Rules.{GoodKeys, Good}
-
-both : (a b : Bool) → (a && b) ≡ true → (a ≡ true) × (b ≡ true)
-both true b e = (refl, e)
-both false b e = absurd (true≢false (sym e))
-
-join : (a b : Bool) → a ≡ true → b ≡ true → (a && b) ≡ true
-join a b e f = ap₂ (λ (x y : Bool). x && y) e f
 
 -- keys that pass the test keep the rules
 pub from-facts : (node : List ℕ) (cap from : ℕ) (keys : List (List ℕ)) → goodFrom node cap from keys ≡ true → GoodKeys node cap from keys

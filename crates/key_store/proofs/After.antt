@@ -2,10 +2,10 @@
 -- result is the new one or was held. Assumes nothing.
 use Prim.Native.Nat.{ℕ, _≤_, _<_}
 use native.Mathlib.Omega.{arith}
-use mathlib.Core.Path.{_≡_, refl, sym, subst}
+use mathlib.Core.Path.{_≡_, sym, subst}
 use mathlib.Core.Bool.{true}
 use mathlib.Core.Logic.{⊎-elim}
-use mathlib.Core.List.{List, [], _∷_, _++_, List·Memᴰ·head as here, List·Memᴰ·tail as there}
+use mathlib.Core.List.{List, [], _∷_, _++_}
 use lib.ListN.{length, length-take}
 use Rattle.octets.specs.Bytes.{Bytes, be}
 use Rattle.content_key.specs.Key.{selectorOf}
@@ -18,17 +18,12 @@ use Rattle.nearest.proofs.Offer.{offer-room}
 use Rattle.key_index.specs.View.{View, withKeys}
 use Rattle.key_index.specs.Good.{awayFrom, good, lastOf}
 use Rattle.key_index.specs.Keys.{Each, NineBytes}
-use Rattle.key_index.proofs.Each.{each-member}
+use Rattle.key_index.proofs.Each.{each-member, each-all}
 use Rattle.key_index.proofs.Rules.{good-facts, facts-good}
 use Rattle.key_store.specs.Store.{Storing, storeOf, nextOf}
 use Rattle.key_store.specs.Cases.{OfBytes, Fresh, Stores, bad, no-length, no-selector, no-content, held, beyond, room, full}
 use Rattle.key_store.proofs.Facts.{sorted-near, near-sorted}
 use Rattle.key_store.proofs.Cases.{store-cases}
-
--- a fact of each key, from one of each member
-each-all : (P : List ℕ → Type 0) (ks : List (List ℕ)) → ((k : List ℕ) → k among ks → P k) → Each P ks
-each-all P [] h = tt
-each-all P (k ∷ ks) h = (h k (here refl), each-all P ks (λ j m. h j (there m)))
 
 module _ (limit : ℕ) (v : View) (key : List ℕ) where
   -- what holds of the key and of each held one holds of each one after

@@ -11,11 +11,11 @@ use lib.ListN.{length, getD, drop}
 use borrow.Author.Tests.{le-leb, leb-true, le-ltb, ltb-false}
 use Rattle.refusal.specs.Outcome.{Outcome, given, refused}
 use Rattle.octets.specs.Bytes.{Bytes}
+use Rattle.octets.proofs.Tests.{both}
 use Rattle.message.specs.Values.{Message, ping, pong, findNode, foundNodes, findContent, foundContent, offer, accept, store, Formed}
 use Rattle.message.specs.Encode.{encode}
 use Rattle.message.specs.Rules.{rulesOf}
 use Rattle.message.specs.Decode.{layoutOf, ruledOr4, decode}
-use Rattle.message.proofs.Tests.{both}
 use Rattle.message.proofs.Rules.{rules-same}
 use Rattle.message.proofs.Layouts.{Holds, read-layout, layout-read}
 

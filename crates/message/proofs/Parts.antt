@@ -12,11 +12,12 @@ use lib.Seq.{drop-at}
 use borrow.Author.Tests.{le-leb, leb-true, eq-eqb, eqb-true}
 use Rattle.octets.specs.Bytes.{Bytes}
 use Rattle.octets.proofs.Numbers.{bytes-drop, bytes-reverse, leBytes-length}
+use Rattle.octets.proofs.Tests.{both}
 use Rattle.message.specs.Values.{Sized}
 use Rattle.message.specs.Encode.{offset}
 use Rattle.message.specs.Records.{offsetOf}
 use Rattle.message.specs.Decode.{radiusOf, restOf}
-use Rattle.message.proofs.Tests.{both, passed}
+use Rattle.message.proofs.Tests.{passed}
 use Rattle.message.proofs.Offsets.{offset-read, offset-inside}
 
 -- a radius is read back

@@ -12,10 +12,11 @@ use lib.Dec.{leb, eqb}
 use borrow.Author.Tests.{le-leb, leb-true, eq-eqb, eqb-true}
 use Rattle.octets.specs.Bytes.{Bytes}
 use Rattle.octets.proofs.Numbers.{bytes-take, bytes-drop, leBytes-length}
+use Rattle.octets.proofs.Tests.{both}
 use Rattle.message.specs.Values.{AllBytes}
 use Rattle.message.specs.Encode.{offset, offsetsFrom, joined, listBytes}
 use Rattle.message.specs.Records.{offsetOf, offsetsOf, countOf, ordered, between, laidOut, recordsOf}
-use Rattle.message.proofs.Tests.{both, all-four}
+use Rattle.message.proofs.Tests.{all-four}
 use Rattle.message.proofs.Offsets.{offset-read, read-offset}
 
 -- the places where the records start, the first at a place

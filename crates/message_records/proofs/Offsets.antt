@@ -11,9 +11,9 @@ use lib.Seq.{drop-drop, drop-at, length-take-le, take-add, take-take}
 use lib.Dec.{leb}
 use borrow.Author.Tests.{leb-true, le-leb, lt-leb}
 use Rattle.octets.specs.Bytes.{le}
+use Rattle.octets.proofs.Tests.{both}
 use Rattle.message.specs.Records.{offsetOf, offsetsOf, ordered}
 use Rattle.message.specs.Reading.{partAt}
-use Rattle.message.proofs.Tests.{both}
 use Rattle.message.proofs.Records.{offsets-count}
 use Rattle.message_records.specs.Places.{offsetAt}
 

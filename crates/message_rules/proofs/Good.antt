@@ -10,9 +10,9 @@ use lib.Dec.{leb}
 use lib.ListN.{length, getD, take}
 use lib.Seq.{getD-take, length-take-le}
 use borrow.Author.Tests.{le-leb, lt-leb, leb-true, eq-eqb, ne-eqb, not-true, not-false}
+use Rattle.octets.proofs.Tests.{both}
 use Rattle.message.specs.Rules.{sameBytes, allDifferent, goodRecords}
 use Rattle.message.specs.Reading.{recordsAt}
-use Rattle.message.proofs.Tests.{both}
 use Rattle.message_rules.specs.Good.{insideAt, goodAt, sizesGood, allWithin, Places}
 use Rattle.message_rules.proofs.Lengths.{sizes-of}
 

@@ -8,6 +8,7 @@ use mathlib.Core.Option.{Option, some, none}
 use lib.Dec.{leb, ltb}
 use lib.ListN.{length, getD}
 use borrow.Author.Tests.{le-leb, lt-leb, lt-ltb, leb-true}
+use Rattle.octets.proofs.Tests.{both}
 use Rattle.refusal.specs.Says.{saysOf}
 use Rattle.refusal.specs.Outcome.{Outcome, refusal, refused}
 use Rattle.refusal.proofs.Outcomes.{same-refusal, accepted-not}
@@ -18,7 +19,6 @@ use Rattle.message.specs.Values.{Message, foundNodes, foundContent}
 use Rattle.message.specs.Encode.{offset, listBytes, encode}
 use Rattle.message.specs.Rules.{one, present, connected, allDifferent, sameBytes, recordSizes, goodRecords, ruled, rulesOf}
 use Rattle.message.specs.Reading.{recordsAt}
-use Rattle.message.proofs.Tests.{both}
 use Rattle.message_rules.specs.Things.{thingsOf}
 use Rattle.message_rules.proofs.Places.{part-length, records-length, record-at}
 use Rattle.message_rules.proofs.Present.{things-three}

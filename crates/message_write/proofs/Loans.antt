@@ -15,11 +15,12 @@ use Rattle.refusal.specs.declared.Refusal.the-variants.{Layout, TooManyItems, I
 use Rattle.refusal.specs.declared.Checked.the-variants.{Accepted, Refused}
 use Rattle.octets.specs.Bytes.{Bytes}
 use Rattle.octets.proofs.Numbers.{bytes-take, bytes-drop}
+use Rattle.octets.proofs.Tests.{both}
 use Rattle.message.specs.Values.{AllBytes}
 use Rattle.message.specs.Decode.{mapSome}
 use Rattle.message.specs.Reading.{partAt, recordsAt}
 use Rattle.message.specs.Report.{in32}
-use Rattle.message.proofs.Tests.{both, passed}
+use Rattle.message.proofs.Tests.{passed}
 use Rattle.message_rules.specs.Good.{insideAt, goodAt, allWithin, Places}
 use Rattle.message_rules.proofs.Places.{in32-length, in32-at, records-length}
 use Rattle.message_rules.proofs.Good.{inside-all, all-inside, good-inside}
@@ -64,7 +65,7 @@ inside-front s a n starts lens (suc k) =
     let t = leb (getD starts k 0 + getD lens k 0) (length s) in
     ap (λ (b : Bool). b && t) (inside-front s a n starts lens k) ∙ and-assoc (leb (a + n) (length s)) (insideAt s starts lens k) t
 
-lent-more : (s : List ℕ) (a n : ℕ) (starts lens : List ℕ) (w : Bool) → within s a n ≡ w
+pub lent-more : (s : List ℕ) (a n : ℕ) (starts lens : List ℕ) (w : Bool) → within s a n ≡ w
     → (o : Option (List (List ℕ))) → lent s starts lens ≡ o
     → lent s (a ∷ starts) (n ∷ lens) ≡ cond w (mapSome (λ (rs : List (List ℕ)). partAt s a n ∷ rs) o) none
 unfolding lent

@@ -6,3 +6,4 @@ pub mod Pairs
 pub mod Parts
 pub mod Flags
 pub mod Tables
+pub mod Tests

@@ -7,13 +7,13 @@ use mathlib.Core.List.{List, [], _∷_, map}
 use lib.Dec.{leb, lit≤}
 use lib.ListN.{length, drop}
 use borrow.Author.Tests.{leb-true, ltb-true}
+use Rattle.octets.proofs.Tests.{both}
 use Rattle.refusal.specs.Outcome.{given, refused}
 use Rattle.refusal.proofs.Outcomes.{given-not}
 use Rattle.distance.specs.Distance.{distanceOf}
 use Rattle.content_key.specs.Key.{keyId}
 use Rattle.message.specs.Values.{Message, Sized, foundContent}
 use Rattle.message.specs.Rules.{connected}
-use Rattle.message.proofs.Tests.{both}
 use Rattle.key_index.specs.View as index
 use Rattle.key_index.specs.Calls.{isHeld}
 use Rattle.routing_table.specs.View.{View}

@@ -13,9 +13,9 @@ use Rattle.refusal.specs.Outcome.{given, refused}
 use Rattle.refusal.proofs.Outcomes.{given-not}
 use Rattle.octets.specs.Bytes.{Bytes}
 use Rattle.octets.proofs.Numbers.{bytes-take}
+use Rattle.octets.proofs.Tests.{both}
 use Rattle.distance.specs.Distance.{askedOf}
 use Rattle.message.specs.Values.{Message, Sized, foundNodes}
-use Rattle.message.proofs.Tests.{both}
 use Rattle.routing_table.specs.View.{View}
 use Rattle.routing_table.specs.Rules.{_among_, Rules}
 use Rattle.routing_table.specs.declared.Entry.{Entry}

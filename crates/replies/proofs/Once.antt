@@ -13,11 +13,11 @@ use borrow.Author.Tests.{leb-true, le-leb}
 use Rattle.octets.specs.Bytes.{Bytes}
 use Rattle.octets.specs.Equal.{sameBytes, holds, allDifferent}
 use Rattle.octets.proofs.Equal.{holds-member, member-holds}
+use Rattle.octets.proofs.Tests.{both}
 use Rattle.message.specs.Values.{AllBytes}
 use Rattle.message.specs.Rules.{recordSizes}
-use Rattle.message.proofs.Tests.{both}
 use Rattle.routing_table.specs.Rules.{_among_, Different}
-use Rattle.routing_table.proofs.Counts.{all-different, different-all}
+use Rattle.routing_table.proofs.Counts.{all-different, different-all, different-left, different-right}
 use Rattle.replies.specs.Chosen.{onceFrom, once}
 
 module _ {A : Type 0} where
@@ -28,14 +28,6 @@ module _ {A : Type 0} where
     λ m. ⊎-elim (d .0) (λ r. n (here (sym (List·Memᴰ·eq-of-singleton r)))) (List·Memᴰ·append-cases l m),
     different-end l a (d .1) (λ m. n (there m)),
   )
-
-  pub different-front : (l back : List A) → Different (l ++ back) → Different l
-  different-front [] back d = tt
-  different-front (a ∷ l) back d = (λ m. d .0 (Memᴰ·append-left back m), different-front l back (d .1))
-
-  different-back : (front l : List A) → Different (front ++ l) → Different l
-  different-back [] l d = d
-  different-back (a ∷ front) l d = different-back front l (d .1)
 
 -- a record kept unless it is there already
 abbrev withOne : List ℕ → List (List ℕ) → List (List ℕ)
@@ -180,7 +172,7 @@ part-among {A} {a} m front g back e i = subst⁻¹ (λ (l : List A). a among l) 
 module _ (m front g back : List (List ℕ)) (e : m ≡ front ++ (g ++ back)) where
   pub part-different : allDifferent sameBytes m ≡ true → allDifferent sameBytes g ≡ true
   part-different d =
-      different-all g (different-front g back (different-back front (g ++ back) (subst Different e (all-different m d))))
+      different-all g (different-left g back (different-right front (g ++ back) (subst Different e (all-different m d))))
 
   pub part-sizes : recordSizes m ≡ true → recordSizes g ≡ true
   part-sizes s = each-size g (λ r i. size-each m s r (part-among m front g back e i))

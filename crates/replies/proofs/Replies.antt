@@ -13,13 +13,13 @@ use Rattle.refusal.proofs.Outcomes.{given-not}
 use Rattle.octets.specs.Bytes.{Bytes, le}
 use Rattle.octets.specs.Equal.{sameBytes, allDifferent}
 use Rattle.octets.proofs.Numbers.{bytes-at, bytes-replicate}
+use Rattle.octets.proofs.Tests.{both}
 use Rattle.content_key.specs.Key.{selectorOf, blockOf, keyId}
 use Rattle.content_key.proofs.Ids.{id-length, id-bytes-ok}
 use Rattle.message.specs.Values.{Message, ping, pong, findNode, foundNodes, findContent, foundContent, offer, accept, store, Sized, AllBytes, Formed}
 use Rattle.message.specs.Encode.{encode, joined}
 use Rattle.message.specs.Rules.{recordSizes, one, present, connected, rulesOf}
 use Rattle.message.specs.Decode.{decode}
-use Rattle.message.proofs.Tests.{both}
 use Rattle.message.proofs.Messages.{written-read, read-formed}
 use Rattle.nearest.proofs.Lists.{among-split}
 use Rattle.key_index.specs.View as index
@@ -80,7 +80,7 @@ content-accepted connection rs content c f b l h few =
     written-read (foundContent connection rs content) (c, (f .bytes, b)) (rw (le-leb (length rs) 32 l, f .sizes, f .different, few))
     (omega (arith, content-length connection rs content (c .1)))
 
-no-connection : connected noConnection ≡ false
+pub no-connection : connected noConnection ≡ false
 unfolding le
 no-connection = refl
 

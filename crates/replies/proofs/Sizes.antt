@@ -11,9 +11,9 @@ use lib.ListN.{length, getD, take, length-append}
 use lib.Seq.{length-take-le, take-suc}
 use borrow.Author.Tests.{leb-true, le-leb}
 use Rattle.octets.proofs.Numbers.{leBytes-length}
+use Rattle.octets.proofs.Tests.{both}
 use Rattle.message.specs.Values.{foundNodes, foundContent}
 use Rattle.message.specs.Encode.{offset, joined, listBytes, encode}
-use Rattle.message.proofs.Tests.{both}
 use Rattle.message.proofs.Records.{offsets-length, list-length}
 use Rattle.routing_table.specs.Rules.{_among_}
 use Rattle.replies.specs.Room.{bytesWith, room}

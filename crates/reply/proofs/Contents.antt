@@ -35,6 +35,7 @@ use Rattle.replies.proofs.Groups.{first-split, first-fits, first-take}
 use Rattle.replies.proofs.Once.{part-sizes, part-different}
 use Rattle.replies.proofs.Sizes.{content-length, content-is, content-room, room-true, none-fits}
 use Rattle.replies.proofs.Content.{held-refused}
+use Rattle.replies.proofs.Replies.{no-connection}
 use Rattle.reply.specs.Answer.{sizeOf, Replies}
 use Rattle.reply.specs.Ready.{First, Fair, Single, oneOf}
 use Rattle.reply.specs.declared.ReplyAnswer.{ReplyAnswer}
@@ -66,10 +67,6 @@ module _ (connection content : List ℕ) (s : Single connection content) where
   pub single-size : length connection ≡ 4 → sizeOf (foundContent connection [] content) ≤ 1280
   unfolding joined
   single-size l = let small = s .small in omega (arith, content-length connection [] content l)
-
-no-connection : connected noConnection ≡ false
-unfolding le
-no-connection = refl
 
 one-most : (t : Bool) → leb (0 + 0 + one t) 1 ≡ true
 one-most true = refl

@@ -3,17 +3,17 @@
 use Prim.Native.Nat.{ℕ, zero, suc, _-_}
 use native.Mathlib.Omega.{arith}
 use mathlib.Core.Path.{_≡_, refl, sym, ap₂, subst, _∙_}
-use mathlib.Core.Bool.{Bool, true, false, cond}
+use mathlib.Core.Bool.{Bool, true, false}
 use mathlib.Core.List.{List, [], _∷_, map}
 use mathlib.Core.Option.{Option, some, none}
 use lib.Dec.{leb}
 use lib.ListN.{length, take, drop, length-drop}
 use lib.Seq.{length-take-le}
 use borrow.Author.Tests.{leb-true}
-use Rattle.message.specs.Decode.{mapSome}
+use Rattle.octets.proofs.Tests.{both}
 use Rattle.message.specs.Reading.{partAt}
-use Rattle.message.proofs.Tests.{both}
 use Rattle.message_write.specs.Lent.{within, lent}
+use Rattle.message_write.proofs.Loans.{lent-more}
 use Rattle.reply.specs.Ready.{lengthOf}
 
 pub data Lends (s : List ℕ) : List ℕ → List ℕ → List (List ℕ) → Type 0 where
@@ -22,17 +22,10 @@ pub data Lends (s : List ℕ) : List ℕ → List ℕ → List (List ℕ) → Ty
       → Lends s (a ∷ starts) (n ∷ lens) (partAt s a n ∷ rs)
 
 -- the relation is the definition
-lent-next : (s : List ℕ) (a n : ℕ) (starts lens : List ℕ) (w : Bool) → within s a n ≡ w → (o : Option (List (List ℕ))) → lent s starts lens ≡ o
-    → lent s (a ∷ starts) (n ∷ lens) ≡ cond w (mapSome (λ (rs : List (List ℕ)). partAt s a n ∷ rs) o) none
-unfolding lent
-lent-next s a n starts lens true e none f = rw (e, f)
-lent-next s a n starts lens true e (some rs) f = rw (e, f)
-lent-next s a n starts lens false e o f = rw e
-
 pub lends-lent : {s starts lens : List ℕ} {rs : List (List ℕ)} → Lends s starts lens rs → lent s starts lens ≡ some rs
 unfolding lent
 lends-lent nothing = refl
-lends-lent {s} (one-more {a} {n} {starts} {lens} {rs} w r) = lent-next s a n starts lens true w (some rs) (lends-lent r)
+lends-lent {s} (one-more {a} {n} {starts} {lens} {rs} w r) = lent-more s a n starts lens true w (some rs) (lends-lent r)
 
 not-some : {A : Type 0} {X : Type 0} {a : A} → _≡_ {A = Option A} none (some a) → X
 not-some e = let z : _≡_ {A = ℕ} 0 1 = cc in absurd (omega arith)
@@ -46,10 +39,10 @@ lent-lends s (a ∷ starts) (n ∷ lens) rs e = go (within s a n) refl (lent s s
   where
     go : (w : Bool) → within s a n ≡ w → (o : Option (List (List ℕ))) → lent s starts lens ≡ o
         → ((qs : List (List ℕ)) → lent s starts lens ≡ some qs → Lends s starts lens qs) → Lends s (a ∷ starts) (n ∷ lens) rs
-    go false p o q rest = not-some (sym (lent-next s a n starts lens false p o q) ∙ e)
-    go true p none q rest = not-some (sym (lent-next s a n starts lens true p none q) ∙ e)
+    go false p o q rest = not-some (sym (lent-more s a n starts lens false p o q) ∙ e)
+    go true p none q rest = not-some (sym (lent-more s a n starts lens true p none q) ∙ e)
     go true p (some qs) q rest =
-        let f : _≡_ {A = Option (List (List ℕ))} (some (partAt s a n ∷ qs)) (some rs) = sym (lent-next s a n starts lens true p (some qs) q) ∙ e in
+        let f : _≡_ {A = Option (List (List ℕ))} (some (partAt s a n ∷ qs)) (some rs) = sym (lent-more s a n starts lens true p (some qs) q) ∙ e in
         let same : partAt s a n ∷ qs ≡ rs = cc in
         subst (Lends s (a ∷ starts) (n ∷ lens)) same (one-more p (rest qs q))
 

@@ -10,6 +10,7 @@ use borrow.Author.Tests.{eq-eqb, ne-eqb, lt-ltb, le-ltb}
 use Rattle.refusal.specs.Outcome.{given, refused, mapOutcome}
 use Rattle.refusal.proofs.Outcomes.{given-not}
 use Rattle.octets.specs.Equal.{sameBytes}
+use Rattle.octets.proofs.Tests.{both}
 use Rattle.content_key.specs.Key.{selectorOf, keyOf}
 use Rattle.message.specs.Values.{Message, findContent}
 use Rattle.message.specs.Rules.{rulesOf}
@@ -18,7 +19,6 @@ use Rattle.message.specs.Reading.{partAt, valuesOf, ReadTo}
 use Rattle.message.specs.declared.Kind.{Kind}
 use Rattle.message.specs.declared.Kind.the-variants.{FindContent}
 use Rattle.message.specs.declared.Reading.{Reading}
-use Rattle.message.proofs.Tests.{both}
 use Rattle.message.proofs.Messages.{accepted}
 use Rattle.key_index.specs.View as keys
 use Rattle.key_index.specs.Good as rules

@@ -9,9 +9,10 @@ use mathlib.Core.List.{List, [], _∷_, _++_, map, append-assoc, List·Memᴰ·h
 use lib.Dec.{leb, lit≤}
 use lib.ListN.{length, take, drop, replicate, length-append, length-drop, length-replicate, drop-of-length-le}
 use lib.Seq.{length-take-le, take-all, take-add, drop-drop, getD-drop}
+use Rattle.octets.proofs.Tests.{both}
 use Rattle.message.specs.Encode.{joined}
 use Rattle.message.specs.Rules.{recordSizes}
-use Rattle.message.proofs.Tests.{both}
+use Rattle.message_read.proofs.Lists.{part-rest}
 use Rattle.routing_table.specs.Rules.{_among_}
 use Rattle.replies.specs.Groups.{firstGroup, groups, more}
 use Rattle.replies.specs.Room.{room, bytesWith}
@@ -23,12 +24,8 @@ use Rattle.reply.specs.declared.groups.Group.{Group}
 use Rattle.reply.specs.declared.groups.Spread.{Spread}
 use Rattle.reply.proofs.Taking.{Of, of-length}
 
--- what is left of some lengths, as a part of a slice
-pub part-left : (lens : List ℕ) (from : ℕ) → take (length lens - from) (drop from lens) ≡ drop from lens
-part-left lens from = take-all (length lens - from) (drop from lens) (omega (arith, length-drop from lens))
-
 pub part-inside : (lens : List ℕ) (from n : ℕ) → from ≤ length lens → n ≤ length (take (length lens - from) (drop from lens)) → from + n ≤ length lens
-part-inside lens from n h k = omega (arith, ap length (part-left lens from), length-drop from lens)
+part-inside lens from n h k = omega (arith, ap length (part-rest lens from), length-drop from lens)
 
 pub small-left : (lens : List ℕ) (from : ℕ) → from ≤ length lens → Small lens → (p : List ℕ) → p ≡ drop from lens → Small p
 small-left lens from h s p is =

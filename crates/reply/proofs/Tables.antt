@@ -2,11 +2,11 @@
 -- record can be sent where the table keeps its rules. Assumes nothing.
 use Prim.Native.Nat.{ℕ, zero, suc, _≤_}
 use native.Mathlib.Omega.{arith}
-use mathlib.Core.Path.{_≡_, sym, subst, _∙_}
+use mathlib.Core.Path.{_≡_, sym, subst}
 use mathlib.Core.Bool.{Bool, true}
 use mathlib.Core.Logic.{⊎-elim}
 use mathlib.Core.List.{List, [], _∷_, map, List·Memᴰ·head as here, List·Memᴰ·tail as there, List·Memᴰ·not-nil, List·Memᴰ·cases-cons}
-use lib.ListN.{length, getD, take, length-map}
+use lib.ListN.{length, getD, take}
 use base.Fml.{Fml}
 use mir.Val.{Val, Fits}
 use mir.Syntax.{w8}
@@ -24,6 +24,7 @@ use Rattle.routing_table.proofs.Firsts.{length-firsts, firsts-take}
 use Rattle.routing_table.proofs.Keeps.{good-keeps}
 use Rattle.routing_table.proofs.Entry as entry
 use Rattle.routing_table.proofs.RoutingTable as table
+use Rattle.routing_table.proofs.Mapped.{length-mapped}
 use Rattle.replies.specs.Chosen.{nearestBy, entryRecord, once}
 use Rattle.replies.specs.Laws.{Typed}
 use Rattle.replies.proofs.Once.{Sendable}
@@ -40,9 +41,6 @@ each-one into own [] us s m = absurd (List·Memᴰ·not-nil m)
 each-one into own (y ∷ xs) [] s m = absurd s
 each-one {X} into own (y ∷ xs) (u ∷ us) s m =
     ⊎-elim (λ e. (u, subst (λ (z : X). shadow (own (into z) (u ∷ []))) (sym e) (s .0))) (λ r. each-one into own xs us (s .1) r) (List·Memᴰ·cases-cons m)
-
-length-mapped : {A B : Type 0} (f : A → B) (l : List A) (n : ℕ) → length (map f l) ≡ n → length l ≡ n
-length-mapped f l n e = sym (length-map l f) ∙ e
 
 entry-typed : (e : Entry) (vs : List Val) → Is entry.the-row e vs → Typed (e .contact)
 entry-typed e vs s =

@@ -2,8 +2,8 @@
 -- ways in which it ends. Assumes nothing.
 use Prim.Native.Nat.{ℕ, _+_, _≤_, _<_}
 use native.Mathlib.Omega.{arith}
-use mathlib.Core.Path.{_≡_, refl, sym, ap, _∙_}
-use mathlib.Core.Bool.{Bool, true, false, _&&_}
+use mathlib.Core.Path.{_≡_, sym, ap, _∙_}
+use mathlib.Core.Bool.{false, _&&_, and-false}
 use mathlib.Core.Logic.{_⊎_, ⊎-elim}
 use mathlib.Core.List.{List, [], map}
 use lib.Dec.{leb}
@@ -35,10 +35,6 @@ pub record Taking (head : ℕ) (lens : List ℕ) (i size : ℕ) : Type 0 where
   pub small : size ≤ 1280
   pub so : (rs : List (List ℕ)) → Of lens rs → firstGroup (room head) [] rs ≡ firstGroup (room head) (take i rs) (drop i rs)
   pub bytes : (rs : List (List ℕ)) → Of lens rs → size ≡ bytesWith head (take i rs)
-
-not-both : (t : Bool) → (t && false) ≡ false
-not-both true = refl
-not-both false = refl
 
 module _ (head : ℕ) (lens : List ℕ) where
   pub taking-start : head ≤ 64 → Taking head lens 0 head
@@ -88,7 +84,7 @@ module _ (head : ℕ) (lens : List ℕ) where
           no : (leb (i + 1) 32 && leb (size + (4 + len)) 1280) ≡ false
           no =
               ⊎-elim (λ (m : 32 ≤ i). rw (lt-leb (i + 1) 32 (omega arith)))
-              (λ (m : 1280 < size + (4 + len)). rw (lt-leb (size + (4 + len)) 1280 m) (not-both (leb (i + 1) 32))) w
+              (λ (m : 1280 < size + (4 + len)). rw (lt-leb (size + (4 + len)) 1280 m) (and-false (leb (i + 1) 32))) w
 
       -- it does
       pub taking-next : i < 32 → size + (4 + len) ≤ 1280 → (size′ : ℕ) → size′ ≡ size + (4 + len) → Taking head lens (i + 1) size′

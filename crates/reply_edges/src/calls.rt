@@ -111,7 +111,7 @@ fn left(
     let said = lengths_word(is_zeros(lens, n), out, from);
     let before = pattern();
     let at = buffer_word(
-        check::same(back(buffer, size), back(&before, size)),
+        check::same(words::back(buffer, size), words::back(&before, size)),
         out,
         said,
     );
@@ -142,9 +142,4 @@ fn is_zeros(lens: &[usize], from: usize) -> bool {
         }
     }
     true
-}
-
-// What comes after the first n elements.
-fn back(s: &[u8], n: usize) -> &[u8] {
-    if n <= s.len() { &s[n..] } else { &s[..0] }
 }

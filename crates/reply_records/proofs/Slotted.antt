@@ -9,12 +9,12 @@ use lib.Dec.{leb}
 use lib.ListN.{length, getD, take, drop, set, take-append-drop, length-append, length-drop, length-set}
 use lib.Seq.{take-all, length-take-le, take-at, drop-at, getD-set-same, getD-set-other, take-append-le, drop-append-le}
 use borrow.Author.Tests.{leb-true}
-use Rattle.message.proofs.Tests.{both}
 use Rattle.octets.specs.Equal.{sameBytes, holds}
 use Rattle.octets.specs.Buffer.{placed}
 use Rattle.octets.proofs.Buffers.{placed-room}
 use Rattle.octets.proofs.Equal.{holds-left, holds-end}
 use Rattle.octets.proofs.Tables.{table-length, entry-at}
+use Rattle.octets.proofs.Tests.{both}
 use Rattle.message.specs.Reading.{partAt, recordsAt}
 use Rattle.message_rules.proofs.Places.{records-length, record-at}
 use Rattle.replies.specs.Nodes.{sendable}

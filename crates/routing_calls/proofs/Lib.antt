@@ -1,5 +1,4 @@
 pub mod Closed
-pub mod Mapped
 pub mod Views
 pub mod Told
 pub mod Sightings

@@ -7,20 +7,12 @@ use Rattle.routing_table.specs.View.{View, entryId, contactId, entryIds, replac
 use Rattle.routing_table.specs.Rules.{_among_, Different, Rules}
 use Rattle.routing_table.specs.declared.Contact.{Contact}
 use Rattle.routing_table.specs.declared.Entry.{Entry}
+use Rattle.routing_table.proofs.Counts.{different-left, different-right}
 use Rattle.routing_runs.proofs.Done.{EntryAt, ReplacementAt}
 use Rattle.routing_runs.proofs.Distinct.{different-out}
 
 module _ {A : Type 0} where
-  -- where no two of a list are equal, no two of a part are,
-  different-left : (l m : List A) → Different (l ++ m) → Different l
-  different-left [] m d = tt
-  different-left (a ∷ l) m d = (λ n. d .0 (in-front m n), different-left l m (d .1))
-
-  different-right : (l m : List A) → Different (l ++ m) → Different m
-  different-right [] m d = d
-  different-right (a ∷ l) m d = different-right l m (d .1)
-
-  -- and none of the one part is in the other
+  -- where no two of a list are equal, none of the one part is in the other
   different-across : {a : A} (l m : List A) → Different (l ++ m) → a among l → ¬ (a among m)
   different-across [] m d n k = absurd (List·Memᴰ·not-nil n)
   different-across {a} (b ∷ l) m d n k =

@@ -13,6 +13,7 @@ use borrow.Author.Tests.{ltb-true, ltb-false, lt-ltb, eqb-true, eqb-false}
 use Rattle.refusal.specs.Says.{only}
 use Rattle.octets.specs.Equal.{sameBytes, holds}
 use Rattle.octets.proofs.Equal.{same-true, same-false, member-holds}
+use Rattle.octets.proofs.Tests.{both}
 use Rattle.distance.specs.Distance.{logDistanceOf}
 use Rattle.routing_table.specs.View.{View, noContact, noEntry, entryId, contactId, entryIds, replacementIds, entryLogs, replacementLogs}
 use Rattle.routing_table.specs.Places.{firstPlace, lastPlace, countOf}
@@ -20,7 +21,7 @@ use Rattle.routing_table.specs.Good.{sized, good}
 use Rattle.routing_table.specs.Rules.{logOf, HasRecord, Rules}
 use Rattle.routing_table.specs.declared.Contact.{Contact}
 use Rattle.routing_table.specs.declared.Entry.{Entry}
-use Rattle.routing_table.proofs.Counts.{both, count-unheld}
+use Rattle.routing_table.proofs.Counts.{count-unheld}
 use Rattle.routing_table.proofs.Keeps.{keeps-good, sized-record, record-sized}
 use Rattle.routing_table.proofs.Splits.{FoundAt, holds-none, first-at, last-at}
 use Rattle.routing_calls.specs.Change.{entryOf, withEntries, withReplacements}

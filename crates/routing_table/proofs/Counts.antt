@@ -2,24 +2,17 @@
 use Prim.Native.Nat.{ℕ, zero, suc, _+_, _≤_, _<_}
 use native.Mathlib.Omega.{arith}
 use mathlib.Core.Path.{_≡_, refl, sym, ap, _∙_}
-use mathlib.Core.Bool.{Bool, true, false, cond, not, _&&_, _||_, true≢false}
+use mathlib.Core.Bool.{Bool, true, false, cond, not, _||_, true≢false}
 use mathlib.Core.Logic.{⊎-elim}
-use mathlib.Core.List.{List, [], _∷_, _++_, List·Memᴰ·head as here, List·Memᴰ·tail as there, List·Memᴰ·not-nil, List·Memᴰ·cases-cons}
+use mathlib.Core.List.{List, [], _∷_, _++_, List·Memᴰ·head as here, List·Memᴰ·tail as there, List·Memᴰ·not-nil, List·Memᴰ·cases-cons, Memᴰ·append-left}
 use lib.Dec.{leb, eqb}
 use borrow.Author.Tests.{eqb-true, eq-eqb, ne-eqb, leb-true, le-leb, not-true}
 use Rattle.octets.specs.Equal.{sameBytes, holds, allDifferent}
 use Rattle.octets.proofs.Equal.{holds-member, member-holds}
+use Rattle.octets.proofs.Tests.{both, join}
 use Rattle.routing_table.specs.Places.{countOf, every}
 use Rattle.routing_table.specs.Good.{noneOver}
 use Rattle.routing_table.specs.Rules.{_among_, Different}
-
--- both tests pass
-pub both : (a b : Bool) → (a && b) ≡ true → (a ≡ true) × (b ≡ true)
-both true b e = (refl, e)
-both false b e = absurd (true≢false (sym e))
-
-pub join : (a b : Bool) → a ≡ true → b ≡ true → (a && b) ≡ true
-join a b e f = rw (e, f)
 
 module _ {A : Type 0} (test : A → Bool) where
   -- what passes for each passes for one
@@ -108,3 +101,13 @@ different-all (a ∷ l) d = join (not (holds sameBytes a l)) (allDifferent sameB
     go : (t : Bool) → holds sameBytes a l ≡ t → not t ≡ true
     go true q = absurd (d .0 (holds-member a l q))
     go false q = refl
+
+-- where no two of a list are equal, no two of a part are
+module _ {A : Type 0} where
+  pub different-left : (l m : List A) → Different (l ++ m) → Different l
+  different-left [] m d = tt
+  different-left (a ∷ l) m d = (λ n. d .0 (Memᴰ·append-left m n), different-left l m (d .1))
+
+  pub different-right : (l m : List A) → Different (l ++ m) → Different m
+  different-right [] m d = d
+  different-right (a ∷ l) m d = different-right l m (d .1)

@@ -9,6 +9,7 @@ use lib.Dec.{leb}
 use lib.ListN.{length}
 use borrow.Author.Tests.{leb-true, le-leb}
 use Rattle.octets.specs.Equal.{sameBytes, allDifferent}
+use Rattle.octets.proofs.Tests.{both, join}
 use Rattle.distance.specs.Distance.{logDistanceOf}
 use Rattle.routing_table.specs.View.{View, contactId, idsOf, entryLogs, replacementIds, replacementLogs}
 use Rattle.routing_table.specs.Places.{countOf, every}
@@ -16,7 +17,7 @@ use Rattle.routing_table.specs.Good.{noneOver, eachFull, sized, soundEnt
 use Rattle.routing_table.specs.Rules.{_among_, logOf, HasRecord, Rules}
 use Rattle.routing_table.specs.declared.Contact.{Contact}
 use Rattle.routing_table.specs.declared.Entry.{Entry}
-use Rattle.routing_table.proofs.Counts.{both, join, every-one, one-every, none-over, over-none, all-different, different-all}
+use Rattle.routing_table.proofs.Counts.{every-one, one-every, none-over, over-none, all-different, different-all}
 
 all-seven : (a b c d e f g : Bool) → (a && b && c && d && e && f && g) ≡ true
     → (a ≡ true) × (b ≡ true) × (c ≡ true) × (d ≡ true) × (e ≡ true) × (f ≡ true) × (g ≡ true)

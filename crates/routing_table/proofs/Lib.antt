@@ -8,3 +8,4 @@ pub mod Looked
 pub mod Counts
 pub mod Keeps
 pub mod Splits
+pub mod Mapped

@@ -5,7 +5,8 @@ use native.Mathlib.Omega.{arith}
 use mathlib.Core.Path.{refl}
 use lib.ListN.{length}
 use borrow.Author.Needs.{needs}
-use Rattle.reply.proofs.Spreading.{part-left, small-left, Spreading, spread-start, spread-some, spread-next, spread-end}
+use Rattle.message_read.proofs.Lists.{part-rest}
+use Rattle.reply.proofs.Spreading.{small-left, Spreading, spread-start, spread-some, spread-next, spread-end}
 use Rattle.reply.proofs.groups.plan.Statement.{statement}
 use Rattle.reply.proofs.groups.plan.Tie as tie
 
@@ -38,7 +39,7 @@ first-requires-2 c κs =
     let at = c .before .before in
     let start = at .before .before .before in
     let lens = start .args .lens .now in
-    (omega arith, small-left lens (at .loop .from) (at .loop .inv .inside) (start .pre .1) _ (part-left lens (at .loop .from)))
+    (omega arith, small-left lens (at .loop .from) (at .loop .inv .inside) (start .pre .1) _ (part-rest lens (at .loop .from)))
 
 add-from : tie.Need-add-from Inv-loop μ-loop
 add-from c =
@@ -61,14 +62,14 @@ loop-less c =
     let start = at .before .before .before in
     omega (
       arith,
-      spread-some _ (start .pre .1) _ _ _ (at .loop .inv) (omega arith) _ (part-left _ (at .loop .from)) _ (omega arith) _ (c .before .before .first2 .ensures),
+      spread-some _ (start .pre .1) _ _ _ (at .loop .inv) (omega arith) _ (part-rest _ (at .loop .from)) _ (omega arith) _ (c .before .before .first2 .ensures),
     )
 
 loop-again : tie.Need-loop-again Inv-loop μ-loop
 loop-again c =
     let at = c .before .before .before .before .before in
     let start = at .before .before .before in
-    spread-next _ (start .pre .1) _ _ _ (at .loop .inv) (omega arith) _ (part-left _ (at .loop .from)) _ (omega arith) _ (c .before .before .first2 .ensures)
+    spread-next _ (start .pre .1) _ _ _ (at .loop .inv) (omega arith) _ (part-rest _ (at .loop .from)) _ (omega arith) _ (c .before .before .first2 .ensures)
 
 returns : tie.Need-returns Inv-loop μ-loop
 returns c = spread-end _ (c .before .before .before .before .pre .1) _ _ _ (c .before .loop .inv) (omega arith) _ refl refl

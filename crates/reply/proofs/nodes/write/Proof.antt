@@ -6,12 +6,13 @@ use mathlib.Core.Path.{refl}
 use mathlib.Core.List.{List}
 use lib.ListN.{length}
 use borrow.Author.Needs.{needs}
+use Rattle.message_read.proofs.Lists.{part-rest}
 use Rattle.replies.specs.Groups.{groups}
 use Rattle.replies.specs.Nodes.{nodesFit}
 use Rattle.reply.specs.Ready.{Small, lentIn}
 use Rattle.reply.proofs.Lends.{Lends, lent-lends, lends-lengths, lends-even}
 use Rattle.reply.proofs.Taking.{of-length}
-use Rattle.reply.proofs.Spreading.{part-left, small-left, small-of, part-inside, Next, next}
+use Rattle.reply.proofs.Spreading.{small-left, small-of, part-inside, Next, next}
 use Rattle.reply.proofs.Sending.{Sending, sending-start, sending-at, sending-next, sending-end, few-messages, sending-length, group-room, one-written}
 use Rattle.reply.proofs.nodes.write.Statement.{statement}
 use Rattle.reply.proofs.nodes.write.Tie as tie
@@ -55,7 +56,7 @@ turned : (c : tie.After-struct-known Inv-loop μ-loop) → Next (records (c .bef
 turned c =
     let at = c .before .before .before in
     let lens = start at .args .lens .now in
-    next lens (at .before .loop .from) _ (part-left lens (at .before .loop .from)) _ (omega arith) _ (c .before .first .ensures) (records at) (lends-lengths (lends at))
+    next lens (at .before .loop .from) _ (part-rest lens (at .before .loop .from)) _ (omega arith) _ (c .before .first .ensures) (records at) (lends-lengths (lends at))
 
 loop-holds : tie.Need-loop-holds Inv-loop μ-loop
 loop-holds c = sending-start _ _
@@ -75,7 +76,7 @@ part-first-end c = let i = inside c in search needs
 first-requires : tie.Need-first-requires Inv-loop μ-loop
 first-requires c κs =
     let at = c .before in
-    (omega arith, small-left (start at .args .lens .now) (at .before .loop .from) (inside at) (small at) _ (part-left (start at .args .lens .now) (at .before .loop .from)))
+    (omega arith, small-left (start at .args .lens .now) (at .before .loop .from) (inside at) (small at) _ (part-rest (start at .args .lens .now) (at .before .loop .from)))
 
 add-to : tie.Need-add-to Inv-loop μ-loop
 add-to c = let i = inside (c .before .before .before) in omega (arith, c .before .first .ensures .few)

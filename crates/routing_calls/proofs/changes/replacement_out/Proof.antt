@@ -8,7 +8,7 @@ use borrow.Author.Needs.{needs}
 use Rattle.routing_table.specs.View.{noContact}
 use Rattle.routing_calls.specs.Arrays.{closed, tableReplacements}
 use Rattle.routing_calls.proofs.Closed.{closed-none, closed-more}
-use Rattle.routing_calls.proofs.Mapped.{length-mapped}
+use Rattle.routing_table.proofs.Mapped.{length-mapped}
 use Rattle.routing_calls.proofs.changes.replacement_out.Statement.{statement}
 use Rattle.routing_calls.proofs.changes.replacement_out.Tie as tie
 

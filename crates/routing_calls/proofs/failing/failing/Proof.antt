@@ -1,6 +1,6 @@
 -- `routing_calls::failing::failing` meets its contract: each way out is a case of the definition (`proofs/Misses.antt`). Assumes nothing.
 use borrow.Author.Needs.{needs}
-use Rattle.routing_calls.proofs.Mapped.{length-mapped}
+use Rattle.routing_table.proofs.Mapped.{length-mapped}
 use Rattle.routing_calls.proofs.Views.{Sized}
 use Rattle.routing_calls.proofs.Misses.{miss-counted, miss-flagged, miss-replaced}
 use Rattle.routing_calls.proofs.failing.failing.Statement.{statement}

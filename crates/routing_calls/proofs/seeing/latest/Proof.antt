@@ -8,7 +8,7 @@ use Rattle.routing_table.specs.View.{view}
 use Rattle.routing_table.specs.declared.RoutingTable.{RoutingTable}
 use Rattle.routing_calls.specs.Arrays.{replacementAdded}
 use Rattle.routing_calls.specs.SeenFor.{asReplacement, meaningOf}
-use Rattle.routing_calls.proofs.Mapped.{length-mapped}
+use Rattle.routing_table.proofs.Mapped.{length-mapped}
 use Rattle.routing_calls.proofs.Views.{Sized, view-latest}
 use Rattle.routing_calls.proofs.seeing.latest.Statement.{statement}
 use Rattle.routing_calls.proofs.seeing.latest.Tie as tie

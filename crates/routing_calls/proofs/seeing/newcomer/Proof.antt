@@ -4,7 +4,7 @@ use borrow.Author.Needs.{needs}
 use Rattle.routing_table.specs.View.{view}
 use Rattle.routing_table.specs.declared.RoutingTable.{RoutingTable}
 use Rattle.routing_calls.specs.SeenFor.{asEntry, meaningOf}
-use Rattle.routing_calls.proofs.Mapped.{length-mapped}
+use Rattle.routing_table.proofs.Mapped.{length-mapped}
 use Rattle.routing_calls.proofs.Views.{Sized}
 use Rattle.routing_calls.proofs.Told.{Told, told-facts}
 use Rattle.routing_calls.proofs.Sightings.{new-waits, new-full, new-entry}

@@ -7,7 +7,7 @@ use borrow.Author.Tests.{not-true, not-false}
 use Rattle.routing_table.specs.Good.{sized}
 use Rattle.routing_table.proofs.Looked.{survey-good}
 use Rattle.routing_calls.specs.SeenFor.{meaningOf}
-use Rattle.routing_calls.proofs.Mapped.{length-mapped}
+use Rattle.routing_table.proofs.Mapped.{length-mapped}
 use Rattle.routing_calls.proofs.Views.{Sized}
 use Rattle.routing_calls.proofs.Told.{Told, told-facts, good-count, good-waiting}
 use Rattle.routing_calls.proofs.Sightings.{sight-bad, sight-record, sight-own, sight-entry, sight-replacement, sight-newcomer}

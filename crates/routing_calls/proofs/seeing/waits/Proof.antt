@@ -8,7 +8,7 @@ use borrow.Author.Tests.{ltb-true, ltb-false}
 use Rattle.routing_table.specs.View.{view}
 use Rattle.routing_table.specs.declared.RoutingTable.{RoutingTable}
 use Rattle.routing_calls.specs.SeenFor.{asReplacement, meaningOf}
-use Rattle.routing_calls.proofs.Mapped.{length-mapped}
+use Rattle.routing_table.proofs.Mapped.{length-mapped}
 use Rattle.routing_calls.proofs.Views.{Sized}
 use Rattle.routing_calls.proofs.Told.{Told, told-facts, good-waiting}
 use Rattle.routing_calls.proofs.Sightings.{wait-more, wait-latest, wait-full}

@@ -82,7 +82,7 @@ fn content_id(key: &[u8; 9]) -> Id {
 impl Index {
     fn is_good(&self) -> bool {
         let far: Vec<Id> = self.keys.iter().map(|k| xor(&self.node, &content_id(k))).collect();
-        self.keys.len() <= 240 && self.keys.iter().all(|k| k[0] <= 1) && far.windows(2).all(|w| w[0] < w[1]) && far.iter().all(|d| *d <= self.cap)
+        self.keys.len() <= 3000 && self.keys.iter().all(|k| k[0] <= 1) && far.windows(2).all(|w| w[0] < w[1]) && far.iter().all(|d| *d <= self.cap)
     }
 }
 

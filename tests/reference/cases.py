@@ -1,7 +1,7 @@
 """The inputs that the programs are run on."""
 from content_cases import content_edges, contents
 from history import digits, distance, key_id, make_key
-from index_cases import index_lines
+from index_cases import full_lines, index_lines
 from message_cases import all_messages, write_lines
 from reply_cases import first_replies, reply_lines
 from routing_cases import routing_lines
@@ -57,6 +57,8 @@ def console_input():
     lines += [b'content ' + (c.hex().encode() or b'-') for c in contents(stream) + content_edges()]
     lines += [b'read ' + (m.hex().encode() or b'-') for m in all_messages(stream)]
     lines += write_lines(stream) + first_replies() + index_lines(stream) + snapshot_lines(stream) + routing_lines() + reply_lines()
+    # what takes a slow build longest comes last
+    lines += full_lines()
     return b'\n'.join(lines + no_calls(stream)) + b'\n'
 
 

@@ -1,6 +1,6 @@
 """What the program `index_edges` prints: the calls on indexes that no call makes."""
 from history import Refused, digits, make_key
-from index import Index, load
+from index import LIMIT, Index, load
 
 ONES = 2**256 - 1
 FIRST, SECOND = make_key(0, 1), make_key(0, 2)
@@ -8,7 +8,7 @@ FIRST, SECOND = make_key(0, 1), make_key(0, 2)
 
 def broken(index, count):
     """The rules of an index: its count, selectors, strict order and cap."""
-    if count > 240 or any(k[0] > 1 for k in index.keys):
+    if count > LIMIT or any(k[0] > 1 for k in index.keys):
         return True
     away = [index.away(k) for k in index.keys]
     return any(d > index.cap for d in away) or any(a >= b for a, b in zip(away, away[1:]))
@@ -31,7 +31,7 @@ def lines(name, cap, count, keys):
 
     def made():
         found = Index(0, cap)
-        found.keys = (keys + [bytes(9)] * 238)[: min(count, 240)]
+        found.keys = (keys + [bytes(9)] * LIMIT)[: min(count, LIMIT)]
         return found
 
     index = made()
@@ -57,12 +57,12 @@ def output():
         ('two keys, other unused bytes', ONES, 2, both),
         ('a key at the cap', 0, 1, [bytes(9), SECOND]),
         ('a key over the cap', 0, 1, both),
-        ('241 keys', ONES, 241, both),
+        ('3001 keys', ONES, LIMIT + 1, both),
         ('the largest count', ONES, 2**64 - 1, both),
         ('a bad selector', ONES, 2, [FIRST, make_key(2, 2)]),
         ('the largest selector', ONES, 1, [make_key(255, 1), SECOND]),
         ('farthest first', ONES, 2, [SECOND, FIRST]),
         ('equal keys', ONES, 2, [FIRST, FIRST]),
-        ('240 keys, most of them equal', ONES, 240, both),
+        ('3000 keys, most of them equal', ONES, LIMIT, both),
     ]
     return ''.join(line + '\n' for case in cases for line in lines(*case)).encode()

@@ -1,13 +1,12 @@
 """Replies: every kind of request, both sides of every limit, each refusal and the order of the tests, and random tables."""
 from history import OFFSET_BITS, key_id, make_key
-from index import Index
-from index_cases import fresh, remove, store
+from index import LIMIT, Index
+from index_cases import fresh, load, remove, store
 from message_cases import offset_damage, records, samples
 from messages import MOST, write
 from replies import CONTENT, REQUESTS
 from routing import ENTRIES, ENTRIES_EACH, LONGEST_RECORD
 from routing_cases import failed, seen_as, start, table
-from snapshot_cases import load
 from stream import Stream
 
 ONES = 2**256 - 1
@@ -235,9 +234,9 @@ def held(stream):
     lines += [remove(keys[0])] + [find_content(key) for key in keys] + [lend(ZERO, b''), find_content(keys[0]), find_content(keys[1])]
     # a full index that was loaded: the first key, the last, and one beside them
     full = Index(ids.own, ONES)
-    for n in range(240):
-        full.store(make_key(n % 2, n), b'\xc0')
-    lines += [load(full.save()), lend(ID, b'')] + [find_content(make_key(n % 2, n)) for n in (0, 1, 120, 238, 239, 240, 241)] + [find_content(make_key(1, 0))]
+    full.keys = sorted((make_key(n % 2, n) for n in range(LIMIT)), key=full.away)
+    numbers = (0, 1, 240, LIMIT // 2, LIMIT - 2, LIMIT - 1, LIMIT, LIMIT + 1)
+    lines += [load(full.save()), lend(ID, b'')] + [find_content(make_key(n % 2, n)) for n in numbers] + [find_content(make_key(1, 0))]
     return lines + [lend(ZERO, b'')]
 
 

@@ -1,6 +1,6 @@
 """What the program `reply_edges` prints: replies from indexes and routing tables that no call makes, and into buffers of several lengths."""
 from history import Refused, make_key
-from index import Index
+from index import LIMIT, Index
 from index_edges import broken
 from messages import MOST, write
 from replies import NO_CONNECTION, reply
@@ -27,7 +27,7 @@ class Keys:
 
     def __init__(self, count=2, first=NEAR, second=FAR, cap=ONES, node=OWN):
         self.count, self.index = count, Index(node, cap)
-        self.index.keys = ([first, second] + [bytes(9)] * 238)[: min(count, 240)]
+        self.index.keys = ([first, second] + [bytes(9)] * LIMIT)[: min(count, LIMIT)]
 
     def broken(self):
         return broken(self.index, self.count)
@@ -66,13 +66,13 @@ def output():
         ('no keys, other unused bytes', Keys(0), some),
         ('a key at the cap', Keys(1, cap=reach), some),
         ('a key over the cap', Keys(1, cap=reach - 1), some),
-        ('241 keys', Keys(241), some),
+        ('3001 keys', Keys(LIMIT + 1), some),
         ('the largest count', Keys(LARGEST), some),
         ('a bad selector', Keys(2, NEAR, b'\2' + FAR[1:]), some),
         ('the largest selector', Keys(1, b'\xff' + NEAR[1:]), some),
         ('farthest first', Keys(2, FAR, NEAR), some),
         ('equal keys', Keys(2, NEAR, NEAR), some),
-        ('240 keys, most of them equal', Keys(240), some),
+        ('3000 keys, most of them equal', Keys(LIMIT), some),
         ('no contacts', two, none),
         ('128 entries and 16 replacements', two, most),
         ('129 entries', two, most.counted(129, 16)),
@@ -96,7 +96,7 @@ def output():
         cases.append(('an entry with a record ' + said, two, some.with_entries((entry, 0)).with_size(size, entry)))
         cases.append(('a replacement with a record ' + said, two, some.with_replacements(replacement).with_size(size, replacement)))
     cases += [
-        ('241 keys and 4 failures', Keys(241), some.with_entries((entry, 4))),
+        ('3001 keys and 4 failures', Keys(LIMIT + 1), some.with_entries((entry, 4))),
         ('an index of another node', Keys(0, node=int.from_bytes(bytes([91]) * 32, 'big')), some),
         ('unused: the ids of an entry and of a replacement', two, some),
         ('unused: our own id', two, some),

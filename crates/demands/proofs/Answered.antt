@@ -9,7 +9,7 @@ use Rattle.refusal.specs.declared.Checked.the-variants.{Accepted, Refused}
 use Rattle.runs.specs.Views.{View, Call, Answer, refused, stored, evicted, removed, reloaded}
 use Rattle.runs.specs.Runs.{Part, run, answers}
 use Rattle.key_index.specs.View as index
-use Rattle.key_index.specs.View.{view, freshOf}
+use Rattle.key_index.specs.View.{keyLimit, view, freshOf}
 use Rattle.key_index.specs.Good.{good}
 use Rattle.key_index.specs.declared.KeyIndex.{KeyIndex}
 use Rattle.key_store.specs.Store.{Storing, storeOf}
@@ -72,11 +72,11 @@ reload-said index (Refused why) = refl
 -- a call that is answered as its contract says is a step: its view, and what it says
 pub answered-step : {index after : KeyIndex} {c : Call box} {a : Answer box} → Answered index c after a → step (viewed index) c ≡ (viewed after, a)
 answered-step {index} (storing {raw = raw} {content = content} r e) =
-    store-by index (storeOf 240 (view index) (raw .bytes) content) ∙ ap storeDoes (sym e) ∙ store-said r (r .stored)
+    store-by index (storeOf keyLimit (view index) (raw .bytes) content) ∙ ap storeDoes (sym e) ∙ store-said r (r .stored)
 answered-step {index} (removing {raw = raw} r e) =
-    remove-by index (removeOf 240 (view index) (raw .bytes)) ∙ ap removeDoes (sym e) ∙ remove-said (r .index) (r .checked)
+    remove-by index (removeOf keyLimit (view index) (raw .bytes)) ∙ ap removeDoes (sym e) ∙ remove-said (r .index) (r .checked)
 answered-step {index} (reloading {text = text} r e) =
-    reload-by index (good 240 (view index)) (loadOf 240 text) ∙ ap reloadDoes (sym e) ∙ reload-said (r .index) (r .checked)
+    reload-by index (good keyLimit (view index)) (loadOf text) ∙ ap reloadDoes (sym e) ∙ reload-said (r .index) (r .checked)
 
 -- the views follow the run
 pub answered-run : {index last : KeyIndex} {cs : List (Call box)} {told : List (Answer box)} → Answers index cs last told

@@ -13,11 +13,11 @@ use Rattle.demands.proofs.Laws.{laws}
 use Rattle.demands.proofs.Steps.{index}
 use Rattle.demands.proofs.Plainly.{plainly}
 
--- `step` is the box's own storing, removing and reloading, at 240 keys. The nine parts, in document 01's words (its "shelf", "ceiling" and
+-- `step` is the box's own storing, removing and reloading, at 3,000 keys. The nine parts, in document 01's words (its "shelf", "ceiling" and
 -- "turned out" are the index, the cap and evicted):
--- 1. The index lists 240 keys at most, all different, strictly nearest first, each within the announced radius, and gives no 0: `inOrder`, `noZero`.
+-- 1. The index lists 3,000 keys at most, all different, strictly nearest first, each within the announced radius, and gives no 0: `inOrder`, `noZero`.
 -- 2. Its node id and ceiling are those of the last accepted reload, or of the fresh shelf: `ownerFresh`, `ownerReloaded`.
--- 3. A stretch, any part of the list with no accepted removal or reload in it, ends with exactly the 240 nearest of the keys held at its
+-- 3. A stretch, any part of the list with no accepted removal or reload in it, ends with exactly the 3,000 nearest of the keys held at its
 --    start and those presented in it with acceptable content and within the ceiling, each counted once: `nearest`.
 -- 4. Two stretches, of one list or of two, that start with the same shelf and present the same set of such keys, in any order and with any
 --    repeats, end with the same keys in the same places: `alike`.
@@ -26,7 +26,7 @@ use Rattle.demands.proofs.Plainly.{plainly}
 --    turned out and those removed since, all counted from the answers; a fresh shelf counts as a reload: `counts`.
 -- 7. An accepted store names a key as turned out exactly when one left, and names that one; nothing else leaves: `evicts`.
 -- 8. A removal is accepted exactly when its key is held, and takes that key out and no other: `removes`, `leaves`; a reload is accepted exactly
---    when its text is the written form of a shelf, and leaves that shelf: `reloads`.
+--    when its text is the written form of a shelf, in either kind, and leaves that shelf: `reloads`.
 -- 9. A refused call leaves the shelf as it was: `refuses`.
 pub demand3 : (o : Owner) → ValidOwner o → (calls : List (Call box)) → Demand3 box step o calls
 demand3 o valid calls = runs.demand3 laws index o valid calls

@@ -71,7 +71,7 @@ fault-number content r e = go (contentOf content) refl e
 
 -- a text by 14
 text-number : (text : List ℕ) (r : Said) → textFrom text ≡ refusal r → 0 < numberIn r
-text-number text r e = go (loadOf 240 text) e
+text-number text r e = go (loadOf text) e
   where
     go : (l : Loading) → viewIn l ≡ refusal r → 0 < numberIn r
     go (badLine line) f = let z : atLine 14 line ≡ r = cc in rw (sym z) (omega arith)

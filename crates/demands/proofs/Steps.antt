@@ -14,7 +14,7 @@ use Rattle.runs.specs.Done.{Admitted, noKey, unfit, held, beyond, noKeyOut, abs
 use Rattle.runs.proofs.Views.{radius-room, radius-full}
 use Rattle.runs.proofs.Steps.{evicting-offer}
 use Rattle.runs.proofs.Equal.{held-iff}
-use Rattle.key_index.specs.View.{withKeys}
+use Rattle.key_index.specs.View.{keyLimit, withKeys}
 use Rattle.key_index.specs.Good.{awayFrom, lastOf}
 use Rattle.key_index.specs.Calls.{isHeld}
 use Rattle.key_store.specs.Store.{Storing}
@@ -25,7 +25,7 @@ use Rattle.key_remove.specs.Remove.{Removing, removeOf}
 use Rattle.key_remove.proofs.Cases.{remove-no-key, remove-absent, remove-held}
 use Rattle.key_remove.proofs.Without.{without-split}
 use Rattle.snapshot.specs.Load.{Loading, badLine, loaded, loadOf}
-use Rattle.snapshot.proofs.RoundTrip.{loaded-written}
+use Rattle.snapshot.proofs.Forms.{accepted-good}
 use Rattle.demands.specs.Box.{Raw, grouped, spread, faultIn, viewIn}
 use Rattle.demands.specs.Setting.{box}
 use Rattle.demands.specs.Step.{afterStore, afterRemove, afterReload, step}
@@ -39,7 +39,7 @@ Does v c after = Done box v c (after .0) (after .1)
 module _ (v : View box) (g : Good box v) where
   module _ (raw : Raw) (content : List ℕ) where
     -- what storing knows of its key, in the terms of `runs`: it is admitted, new, taken
-    asked : {payload : Payload} → Asked 240 (spread v) (raw .bytes) content payload → Admitted box (v .owner) raw content (raw .bytes)
+    asked : {payload : Payload} → Asked keyLimit (spread v) (raw .bytes) content payload → Admitted box (v .owner) raw content (raw .bytes)
     asked {payload} a =
         admitted-iff (v .owner) raw content (raw .bytes) .1
         (refl, (record { nine = record { size = a .size; bytes = raw .each }; selector = a .selector }, (payload, a .listed)))
@@ -47,12 +47,12 @@ module _ (v : View box) (g : Good box v) where
     new : Fresh (spread v) (raw .bytes) → ¬ Held box v (raw .bytes)
     new f h = f .out (held-iff box v equal (raw .bytes) .0 h)
 
-    taken : {payload : Payload} → Asked 240 (spread v) (raw .bytes) content payload → Fresh (spread v) (raw .bytes) → awayFrom (v .owner .node) (raw .bytes) ≤ radius box v
+    taken : {payload : Payload} → Asked keyLimit (spread v) (raw .bytes) content payload → Fresh (spread v) (raw .bytes) → awayFrom (v .owner .node) (raw .bytes) ≤ radius box v
         → Taken box v raw content (raw .bytes)
     taken a f h = record { admitted = asked a; new = new f; near = h }
 
     -- each case of storing is an outcome
-    store-case : {s : Storing} → Stores 240 (spread v) (raw .bytes) content s
+    store-case : {s : Storing} → Stores keyLimit (spread v) (raw .bytes) content s
         → Does v (store raw content) (afterStore v s)
     store-case (case.bad h) = absurd (true≢false (sym (good-passes v g) ∙ h))
     store-case (case.no-length h l) = refusing (noKey (key-length (raw .bytes) l))
@@ -65,7 +65,7 @@ module _ (v : View box) (g : Good box v) where
         evicting-offer laws g (taken a f (omega (arith, radius-full laws v front (lastOf (v .keys)) (omega arith) e))) front (lastOf (v .keys)) h e
 
     store-done : Does v (store raw content) (step v (store raw content))
-    store-done = store-case (store-cases 240 (spread v) (raw .bytes) content (omega arith) (good-bytes v g) (raw .each))
+    store-done = store-case (store-cases keyLimit (spread v) (raw .bytes) content (omega arith) (good-bytes v g) (raw .each))
 
   -- so is each case of removing
   module _ (raw : Raw) where
@@ -73,31 +73,31 @@ module _ (v : View box) (g : Good box v) where
     After s = Does v (remove raw) (afterRemove v s)
 
     held-case : (key : List ℕ) → keyOf (raw .bytes) ≡ Outcome.given key → (t : Bool) → isHeld key (spread v) ≡ t
-        → After (removeOf 240 (spread v) (raw .bytes))
+        → After (removeOf keyLimit (spread v) (raw .bytes))
     held-case key e true h =
         let s = without-split key (v .keys) h in
-        subst After (sym (remove-held 240 (spread v) (raw .bytes) (good-passes v g) (sym e) h))
+        subst After (sym (remove-held keyLimit (spread v) (raw .bytes) (good-passes v g) (sym e) h))
         (subst (λ (l : List (List ℕ)). After (Removing.removed (withKeys (spread v) l))) (sym (s .rest))
         (removing (s .before) (s .after) e (s .whole)))
     held-case key e false h =
-        subst After (sym (remove-absent 240 (spread v) (raw .bytes) (good-passes v g) (sym e) h))
+        subst After (sym (remove-absent keyLimit (spread v) (raw .bytes) (good-passes v g) (sym e) h))
         (refusing (absent e (λ m. true≢false (sym (member-holds key (v .keys) m) ∙ h))))
 
-    remove-case : (o : Outcome (List ℕ)) → keyOf (raw .bytes) ≡ o → After (removeOf 240 (spread v) (raw .bytes))
+    remove-case : (o : Outcome (List ℕ)) → keyOf (raw .bytes) ≡ o → After (removeOf keyLimit (spread v) (raw .bytes))
     remove-case (Outcome.given key) e = held-case key e (isHeld key (spread v)) refl
     remove-case (Outcome.refusal says) e =
-        subst After (sym (remove-no-key 240 (spread v) (raw .bytes) (good-passes v g) (sym e))) (refusing (noKeyOut e))
+        subst After (sym (remove-no-key keyLimit (spread v) (raw .bytes) (good-passes v g) (sym e))) (refusing (noKeyOut e))
 
   -- and each case of reloading
   module _ (text : List ℕ) where
-    load-case : (l : Loading) → loadOf 240 text ≡ l → Does v (reload text) (afterReload v l)
+    load-case : (l : Loading) → loadOf text ≡ l → Does v (reload text) (afterReload v l)
     load-case (badLine line) e = refusing (badText (ap viewIn e))
     load-case (loaded w) e =
-        let l = loaded-written 240 text w e .1 in
+        let l = accepted-good text w e in
         reloading (ap viewIn e, passes-good (grouped w) (l .0) (l .1))
 
   reload-done : (text : List ℕ) → Does v (reload text) (step v (reload text))
-  reload-done text = rw (good-passes v g) (load-case text (loadOf 240 text) refl)
+  reload-done text = rw (good-passes v g) (load-case text (loadOf text) refl)
 
 -- every call does one of these
 pub does : (v : View box) (c : Call box) → Good box v → Does v c (step v c)

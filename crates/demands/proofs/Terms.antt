@@ -1,10 +1,10 @@
 -- The terms of `runs` in those of the box. A key is admitted by its bytes and its content; a view keeps the rules exactly when it is shaped
--- and passes the test behind number 0; its announced radius is the one that the index gives; a text gives a view exactly when it is the view's
--- saved form. Assumes nothing.
+-- and passes the test behind number 0; its announced radius is the one that the index gives; a text gives a view exactly when it is a saved
+-- form of it. Assumes nothing.
 use Prim.Native.Nat.{ℕ, _≤_, _<_}
 use native.Mathlib.Decide.{decLt}
 use native.Mathlib.Omega.{arith}
-use mathlib.Core.Path.{_≡_, refl, sym, ap, _∙_}
+use mathlib.Core.Path.{_≡_, refl, sym, ap, subst, _∙_}
 use mathlib.Core.Bool.{true}
 use mathlib.Core.Option.{none}
 use mathlib.Core.Logic.{_↔_}
@@ -19,16 +19,16 @@ use Rattle.rlp.specs.declared.Payload.{Payload}
 use Rattle.runs.specs.Views.{View, Good, radius, Gives}
 use Rattle.runs.specs.Done.{Admitted}
 use Rattle.runs.proofs.Views.{radius-room, radius-full}
+use Rattle.key_index.specs.View.{keyLimit}
 use Rattle.key_index.specs.Good.{awayFrom, good, lastOf, radiusOf}
 use Rattle.key_index.specs.Keys.{NineBytes}
 use Rattle.key_index.proofs.Each.{each-member, each-all}
 use Rattle.key_index.proofs.Rules.{good-facts, facts-good}
 use Rattle.key_store.specs.Cases.{OfBytes}
 use Rattle.key_store.proofs.Facts.{sorted-near, near-sorted, last-apart, reach-room, reach-full}
-use Rattle.snapshot.specs.Text.{snapshotOf}
 use Rattle.snapshot.specs.Load.{Loading, badLine, loaded, loadOf}
-use Rattle.snapshot.specs.Shape.{Shaped}
-use Rattle.snapshot.proofs.RoundTrip.{loaded-written, accepted-iff}
+use Rattle.snapshot.specs.Shape.{Shaped, Saved}
+use Rattle.snapshot.proofs.Forms.{accepted-iff, accepted-good}
 use Rattle.demands.specs.Box.{Owner, ValidKey, Raw, grouped, spread, faultIn, viewIn}
 use Rattle.demands.specs.Setting.{box}
 use Rattle.demands.proofs.Laws.{key-is, laws}
@@ -69,9 +69,9 @@ module _ (v : View box) where
   }
 
   -- and passes the test behind number 0;
-  pub good-passes : Good box v → good 240 (spread v) ≡ true
+  pub good-passes : Good box v → good keyLimit (spread v) ≡ true
   good-passes g =
-      facts-good 240 (spread v)
+      facts-good keyLimit (spread v)
       (record {
         few = g .most;
         each = record {
@@ -82,9 +82,9 @@ module _ (v : View box) where
       })
 
   -- a view of which both are true keeps the rules
-  pub passes-good : Shaped (spread v) → good 240 (spread v) ≡ true → Good box v
+  pub passes-good : Shaped (spread v) → good keyLimit (spread v) ≡ true → Good box v
   passes-good s t =
-      let f = good-facts 240 (spread v) t in
+      let f = good-facts keyLimit (spread v) t in
       record {
         validOwner = record { node-size = s .node-size; node-bytes = s .node-bytes; cap-size = s .cap-size; cap-bytes = s .cap-bytes };
         validKeys = λ k m. record {
@@ -101,25 +101,27 @@ module _ (v : View box) where
   good-bytes g = let s = good-shaped g in record { size = s .node-size; node = s .node-bytes; each = s .nine }
 
   -- the announced radius is that of the index
-  pub radius-is : radius box v ≡ be (radiusOf 240 (spread v))
-  radius-is = by (decLt (length (v .keys)) 240)
+  pub radius-is : radius box v ≡ be (radiusOf keyLimit (spread v))
+  radius-is = by (decLt (length (v .keys)) keyLimit)
     where
-      by : Dec (length (v .keys) < 240) → radius box v ≡ be (radiusOf 240 (spread v))
-      by (yes h) = radius-room laws v h ∙ sym (ap be (reach-room 240 (spread v) h))
+      by : Dec (length (v .keys) < keyLimit) → radius box v ≡ be (radiusOf keyLimit (spread v))
+      by (yes h) = radius-room laws v h ∙ sym (ap be (reach-room keyLimit (spread v) h))
       by (no h) =
           let s = last-apart (v .keys) (omega arith) in
-          radius-full laws v (s .0) (lastOf (v .keys)) (omega arith) (s .1) ∙ sym (ap be (reach-full 240 (spread v) (omega arith)))
+          radius-full laws v (s .0) (lastOf (v .keys)) (omega arith) (s .1) ∙ sym (ap be (reach-full keyLimit (spread v) (omega arith)))
 
--- a text gives a view exactly when it is the saved form of that view, and the view keeps the rules
-pub gives-iff : (text : List ℕ) (u : View box) → ((text ≡ snapshotOf (spread u)) × Good box u) ↔ Gives box text u
-gives-iff text u = (to, λ h. (from (loadOf 240 text) refl (h .0), h .1))
+-- a text gives a view exactly when it is a saved form of that view
+pub gives-iff : (text : List ℕ) (u : View box) → Saved (spread u) text ↔ Gives box text u
+gives-iff text u = (to, λ h. from (loadOf text) refl (h .0))
   where
-    to : (text ≡ snapshotOf (spread u)) × Good box u → Gives box text u
+    to : Saved (spread u) text → Gives box text u
     to h =
-        (ap viewIn (accepted-iff 240 text (spread u) (omega arith) .1 (sym (h .0), (good-shaped u (h .1), good-passes u (h .1)))), h .1)
+        let e = accepted-iff text (spread u) .1 h in
+        let g = accepted-good text (spread u) e in
+        (ap viewIn e, passes-good u (g .0) (g .1))
 
-    from : (l : Loading) → loadOf 240 text ≡ l → viewIn l ≡ given u → text ≡ snapshotOf (spread u)
+    from : (l : Loading) → loadOf text ≡ l → viewIn l ≡ given u → Saved (spread u) text
     from (badLine line) e f = let z : _≡_ {A = ℕ} 0 1 = cc in absurd (omega arith)
     from (loaded w) e f =
         let same : grouped w ≡ u = cc in
-        sym (loaded-written 240 text w e .0) ∙ ap (λ (x : View box). snapshotOf (spread x)) same
+        subst (λ (x : View box). Saved (spread x) text) same (accepted-iff text w .0 e)

@@ -6,7 +6,7 @@ use Rattle.refusal.specs.Says.{saysOf}
 use Rattle.refusal.specs.declared.Checked.{Checked}
 use Rattle.refusal.specs.declared.Checked.the-variants.{Accepted, Refused}
 use Rattle.runs.specs.Views.{View, Call, store, remove, reload, Answer, refused, stored, evicted, removed, reloaded}
-use Rattle.key_index.specs.View.{view}
+use Rattle.key_index.specs.View.{keyLimit, view}
 use Rattle.key_index.specs.declared.KeyIndex.{KeyIndex}
 use Rattle.key_store.specs.Answer as stores
 use Rattle.key_store.specs.declared.Stored.{Stored}
@@ -35,11 +35,11 @@ checkSays word (Refused why) = refused (saysOf why)
 
 -- index, call, the index in the answer, what the answer says: the answer meets the contract of the call
 pub data Answered (index : KeyIndex) : Call box → KeyIndex → Answer box → Type 0 where
-  storing : {raw : Raw} {content : List ℕ} (r : StoreAnswer) → stores.meaningOf r ≡ stores.storeFor 240 index (raw .bytes) content
+  storing : {raw : Raw} {content : List ℕ} (r : StoreAnswer) → stores.meaningOf r ≡ stores.storeFor keyLimit index (raw .bytes) content
       → Answered index (store raw content) (r .index) (storeSays (r .evicted) (r .stored))
-  removing : {raw : Raw} (r : RemoveAnswer) → removes.meaningOf r ≡ removes.removeFor 240 index (raw .bytes)
+  removing : {raw : Raw} (r : RemoveAnswer) → removes.meaningOf r ≡ removes.removeFor keyLimit index (raw .bytes)
       → Answered index (remove raw) (r .index) (checkSays removed (r .checked))
-  reloading : {text : List ℕ} (r : ReloadAnswer) → reloads.meaningOf r ≡ reloads.reloadFor 240 index text
+  reloading : {text : List ℕ} (r : ReloadAnswer) → reloads.meaningOf r ≡ reloads.reloadFor keyLimit index text
       → Answered index (reload text) (r .index) (checkSays reloaded (r .checked))
 
 -- one call after another: first index, calls, last index, what the answers say

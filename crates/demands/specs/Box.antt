@@ -1,4 +1,4 @@
--- The box in the terms of `runs`: its owners, keys and calls, and how it reads keys, content and saved texts, at a limit of 240 keys.
+-- The box in the terms of `runs`: its owners, keys and calls, and how it reads keys, content and saved texts.
 use Prim.Native.Nat.{ℕ, _≤_}
 use mathlib.Core.Path.{_≡_}
 use mathlib.Core.List.{List}
@@ -62,4 +62,4 @@ viewIn (badLine line) = refusal (atLine 14 line)
 viewIn (loaded v) = given (grouped v)
 
 abbrev pub textFrom : List ℕ → Outcome (ViewOf Owner (List ℕ))
-textFrom text = viewIn (loadOf 240 text)
+textFrom text = viewIn (loadOf text)

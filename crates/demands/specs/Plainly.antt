@@ -8,11 +8,12 @@ use mathlib.Core.List.{List}
 use lib.ListN.{length}
 use Rattle.octets.specs.Bytes.{be}
 use Rattle.nearest.specs.Sorted.{_among_}
-use Rattle.runs.specs.Views.{View, Call, store, reload, Answer, Good}
+use Rattle.runs.specs.Views.{View, Call, store, reload, Answer}
 use Rattle.runs.specs.Done.{Admitted}
 use Rattle.runs.specs.Runs.{Part, Point, Accepted, Stretch, Presented, Candidate}
+use Rattle.key_index.specs.View.{keyLimit}
 use Rattle.key_index.specs.Good.{awayFrom, good, radiusOf}
-use Rattle.snapshot.specs.Text.{snapshotOf}
+use Rattle.snapshot.specs.Shape.{Saved}
 use Rattle.demands.specs.Box.{Owner, Raw, spread}
 use Rattle.demands.specs.Setting.{box}
 use Rattle.demands.specs.Step.{step}
@@ -20,11 +21,11 @@ use Rattle.demands.specs.Step.{step}
 pub record Plainly (o : Owner) (calls : List (Call box)) : Type 0 where
   -- 1. at each point the index passes the test behind number 0, so no call that tests it gives 0, saving and the rest among them
   pub passes : {v w : View box} {cs : List (Call box)} {told : List (Answer box)} → Part box step o calls v cs w told
-      → good 240 (spread v) ≡ true
-  -- 3. a stretch that ends with fewer than 240 keys ends with every key that was held at its start, or presented in it with acceptable
+      → good keyLimit (spread v) ≡ true
+  -- 3. a stretch that ends with fewer keys than the limit ends with every key that was held at its start, or presented in it with acceptable
   -- content and within the cap
   pub all : {v w : View box} {cs : List (Call box)} {told : List (Answer box)} → Part box step o calls v cs w told → Stretch box told
-      → length (w .keys) < 240 → (k : List ℕ) → Candidate box v cs k → k among w .keys
+      → length (w .keys) < keyLimit → (k : List ℕ) → Candidate box v cs k → k among w .keys
   -- and in any stretch each of these that is not held at its end is farther than every key that is
   pub others : {v w : View box} {cs : List (Call box)} {told : List (Answer box)} → Part box step o calls v cs w told → Stretch box told
       → (k : List ℕ) → Candidate box v cs k → ¬ (k among w .keys) → (j : List ℕ) → j among w .keys
@@ -37,7 +38,8 @@ pub record Plainly (o : Owner) (calls : List (Call box)) : Type 0 where
   -- 5. a key not held, with acceptable content, is stored exactly when its distance is at most the radius that the index gave just before
   pub accepts : {v w : View box} {raw : Raw} {content : List ℕ} {a : Answer box} {k : List ℕ}
       → Point box step o calls v (store raw content) w a → Admitted box (v .owner) raw content k → ¬ (k among v .keys)
-      → (Accepted box a × (k among w .keys)) ↔ (awayFrom (v .owner .node) k ≤ be (radiusOf 240 (spread v)))
-  -- 8. a reload is accepted exactly when its text is the saved form of a view that keeps the rules, and leaves that view
+      → (Accepted box a × (k among w .keys)) ↔ (awayFrom (v .owner .node) k ≤ be (radiusOf keyLimit (spread v)))
+  -- 8. a reload is accepted exactly when its text is a saved form, in one of the two kinds, of a view that keeps the rules of that kind, and
+  -- leaves that view
   pub reloads : {v w : View box} {text : List ℕ} {a : Answer box} → Point box step o calls v (reload text) w a
-      → (u : View box) → ((text ≡ snapshotOf (spread u)) × Good box u) ↔ (Accepted box a × (w ≡ u))
+      → (u : View box) → Saved (spread u) text ↔ (Accepted box a × (w ≡ u))

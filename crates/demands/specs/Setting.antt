@@ -4,6 +4,7 @@ use mathlib.Core.Path.{_≡_}
 use mathlib.Core.List.{List}
 use Rattle.octets.specs.Bytes.{be}
 use Rattle.runs.specs.Setting.{Setting}
+use Rattle.key_index.specs.View.{keyLimit}
 use Rattle.key_index.specs.Good.{awayFrom}
 use Rattle.demands.specs.Box.{Owner, ValidOwner, ValidKey, Raw, keyFrom, faultOf, textFrom}
 
@@ -18,7 +19,7 @@ box = record {
   ValidKey = λ o k. ValidKey k;
   dist = λ o k. awayFrom (o .node) k;
   cap = λ o. be (o .cap);
-  limit = λ o. 240;
+  limit = λ o. keyLimit;
   Same = λ o j k. j ≡ k;
   keyIn = λ o raw. keyFrom raw;
   fault = λ o k content. faultOf content;

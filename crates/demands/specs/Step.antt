@@ -1,9 +1,10 @@
--- One call of the box: storing, removing and reloading at a limit of 240 keys, on views. A refused call leaves the view as it was. Where the
+-- One call of the box: storing, removing and reloading at the box's limit, on views. A refused call leaves the view as it was. Where the
 -- payload of stored content stands is no part of demand 3.
 use mathlib.Core.Bool.{cond}
 use Rattle.refusal.specs.Says.{only, atLine}
 use Rattle.runs.specs.Views.{View, Answer, store, remove, reload, refused, stored, evicted, removed, reloaded}
 use Rattle.runs.specs.Runs.{Step}
+use Rattle.key_index.specs.View.{keyLimit}
 use Rattle.key_index.specs.Good.{good}
 use Rattle.key_store.specs.Store.{Storing, storeOf}
 use Rattle.key_remove.specs.Remove.{Removing, removeOf}
@@ -25,6 +26,6 @@ afterReload v (badLine line) = (v, refused (atLine 14 line))
 afterReload v (loaded w) = (grouped w, reloaded)
 
 abbrev pub step : Step box
-step v (store raw content) = afterStore v (storeOf 240 (spread v) (raw .bytes) content)
-step v (remove raw) = afterRemove v (removeOf 240 (spread v) (raw .bytes))
-step v (reload text) = cond (good 240 (spread v)) (afterReload v (loadOf 240 text)) (v, refused (only 0))
+step v (store raw content) = afterStore v (storeOf keyLimit (spread v) (raw .bytes) content)
+step v (remove raw) = afterRemove v (removeOf keyLimit (spread v) (raw .bytes))
+step v (reload text) = cond (good keyLimit (spread v)) (afterReload v (loadOf text)) (v, refused (only 0))

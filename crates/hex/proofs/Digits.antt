@@ -1,12 +1,12 @@
 -- A character and the number that it stands for.
 use Prim.Native.Nat.{ℕ, _+_, _-_, _≤_, _<_}
-use mathlib.Core.Bool.{Bool, true, false, _&&_}
-use mathlib.Core.Path.{_≡_, refl, ap, _∙_}
+use mathlib.Core.Bool.{Bool, true, false, cond, _&&_, _||_, true≢false}
+use mathlib.Core.Path.{_≡_, refl, sym, ap, _∙_}
 use mathlib.Core.Logic.{_⊎_, inl, inr, ⊎-elim}
 use native.Mathlib.Omega.{arith}
 use lib.Dec.{leb, ltb}
 use borrow.Author.Tests.{lt-ltb, le-ltb, le-leb, lt-leb, ltb-true, ltb-false, leb-true, leb-false}
-use Rattle.hex.specs.Digits.{digitOf, valueOf}
+use Rattle.hex.specs.Digits.{digitOf, valueOf, isDigit, numberOf}
 use Rattle.hex.specs.declared.Digit.the-variants.{Value, Other}
 
 -- `0` to `9` stand for 0 to 9
@@ -82,3 +82,26 @@ digit-of-value c n e = ⊎-elim decimal (λ d. ⊎-elim (letter d) (other d) (ra
         let is = value-of-other c d l in
         let clash : _≡_ {A = ℕ} 0 1 = cc in
         absurd (omega arith)
+
+-- whether a character is a digit, by its two ranges
+pub digit-test : (c : ℕ) → ((leb 48 c && leb c 57) || (leb 97 c && leb c 102)) ≡ isDigit (valueOf c)
+unfolding valueOf
+digit-test c = go (leb 48 c && leb c 57) (leb 97 c && leb c 102)
+  where
+    go : (d l : Bool) → (d || l) ≡ isDigit (cond d (Value (c - 48)) (cond l (Value (c - 87)) Other))
+    go true l = refl
+    go false true = refl
+    go false false = refl
+
+-- a digit is in one of them
+digit-in : (c : ℕ) → isDigit (valueOf c) ≡ true → ((48 ≤ c) × (c ≤ 57)) ⊎ ((97 ≤ c) × (c ≤ 102))
+digit-in c e = ⊎-elim inl (λ d. ⊎-elim inr (λ l. absurd (true≢false (sym e ∙ ap isDigit (value-of-other c d l)))) (range 97 102 c)) (range 48 57 c)
+
+-- what a digit up to `9` stands for
+pub decimal-number : (c : ℕ) → isDigit (valueOf c) ≡ true → c ≤ 57 → (48 ≤ c) × (numberOf (valueOf c) ≡ c - 48)
+decimal-number c e h = ⊎-elim (λ d. (d .0, ap numberOf (value-of-decimal c (d .0) (d .1)))) (λ l. absurd (omega (arith, l .0))) (digit-in c e)
+
+-- and what one behind it does
+pub letter-number : (c : ℕ) → isDigit (valueOf c) ≡ true → 57 < c → (97 ≤ c) × (c ≤ 102) × (numberOf (valueOf c) ≡ c - 87)
+letter-number c e h =
+    ⊎-elim (λ d. absurd (omega (arith, d .1))) (λ l. (l .0, l .1, ap numberOf (value-of-letter c (l .0) (l .1)))) (digit-in c e)

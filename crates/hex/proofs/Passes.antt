@@ -1,7 +1,7 @@
 -- What one turn of each loop does, of the pass that tests the characters and of the two that write; and what each way out
 -- of `encode` and `decode` answers and leaves.
 use Prim.Native.Nat.{ℕ, zero, suc, _+_, _-_, _*_, _/_, _%_, _≤_, _<_}
-use mathlib.Core.Bool.{Bool, true, false, cond, and-eq-true-iff}
+use mathlib.Core.Bool.{Bool, true, false, cond, _&&_, and-eq-true-iff}
 use mathlib.Core.List.{List, [], _∷_, _++_}
 use mathlib.Core.Option.{Option, some, none}
 use mathlib.Core.Path.{_≡_, refl, ap, ap₂, sym, _∙_}
@@ -17,18 +17,12 @@ use Rattle.octets.specs.Buffer.{hasRoom}
 use Rattle.octets.proofs.Buffers.{too-long, fits, room-ends, not-placed, placed-all}
 use Rattle.hex.specs.Buffer.{encodedTo, decodedTo, decodedOf, filled, filledOf}
 use Rattle.hex.specs.declared.Decoded.the-variants.{Bytes, NotHex, NoRoom}
-use Rattle.hex.specs.declared.Digit.the-variants.{Value, Other}
 use Rattle.hex.proofs.Texts.{length-text, pairsOf}
 
--- another character at an index ends the test of the rest
-pub other-here : (text : List ℕ) (i : ℕ) → i < length text → valueOf (getD text i 0) ≡ Other
-    → allDigits (drop i text) ≡ false
-other-here text i h e = rw (drop-cons text i 0, e)
-
--- a digit at an index leaves the test to what follows
-pub digit-here : (text : List ℕ) (i n : ℕ) → i < length text → valueOf (getD text i 0) ≡ Value n
-    → allDigits (drop i text) ≡ allDigits (drop (i + 1) text)
-digit-here text i n h e = rw (add-one, drop-cons text i 0, e)
+-- the test on what is left at an index, by the character there
+pub digits-at : (text : List ℕ) (i : ℕ) → i < length text
+    → allDigits (drop i text) ≡ (isDigit (valueOf (getD text i 0)) && allDigits (drop (i + 1) text))
+digits-at text i h = rw add-one (ap allDigits (drop-cons text i 0 h))
 
 -- each character of a text of digits is a digit
 pub digit-at : (text : List ℕ) (i : ℕ) → i < length text → allDigits text ≡ true → isDigit (valueOf (getD text i 0)) ≡ true

@@ -79,17 +79,24 @@ pub fn decode(text: &[u8], out: &mut [u8]) -> Decoded
     Decoded::Bytes(count)
 }
 
-// Whether every character is a digit.
+// Whether every character is a digit. No character ends the pass, so that many can be tested at once.
 fn all_digits(text: &[u8]) -> bool
     ensures { λ r. ⌜ r ≡ allDigits (now (text .entry)) ⌝ }
 {
+    let mut all = true;
     for i in 0..text.len() {
-        let d = value(text[i]);
-        if let Digit::Other = d {
-            return false;
-        }
+        all = all & is_digit(text[i]);
     }
-    true
+    all
+}
+
+// Whether a character is a digit, with no branch.
+fn is_digit(c: u8) -> bool
+    ensures { λ r. ⌜ r ≡ isDigit (valueOf c) ⌝ }
+{
+    let decimal = (48 <= c) & (c <= 57);
+    let letter = (97 <= c) & (c <= 102);
+    decimal | letter
 }
 
 // The number that a digit stands for.
@@ -97,10 +104,7 @@ fn number(c: u8) -> u8
     requires { ⌜ isDigit (valueOf c) ≡ true ⌝ }
     ensures { λ r. ⌜ (r ≡ numberOf (valueOf c)) × (r < 16) ⌝ }
 {
-    let Digit::Value(n) = value(c) else {
-        return 0;
-    };
-    n
+    if c <= 57 { c - 48 } else { c - 87 }
 }
 
 // The digit for a number below 16.

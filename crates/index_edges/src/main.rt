@@ -30,7 +30,7 @@ fn main() {
 
 fn show_broken(ones: [u8; 32], zeros: [u8; 32], first: [u8; 9], second: [u8; 9]) {
     show(b"a key over the cap", index(zeros, 0, 1, first, second));
-    show(b"241 keys", index(ones, 0, 241, first, second));
+    show(b"3001 keys", index(ones, 0, 3001, first, second));
     show(
         b"the largest count",
         index(ones, 0, usize::MAX, first, second),
@@ -43,8 +43,8 @@ fn show_broken(ones: [u8; 32], zeros: [u8; 32], first: [u8; 9], second: [u8; 9])
     show(b"farthest first", index(ones, 0, 2, second, first));
     show(b"equal keys", index(ones, 0, 2, first, first));
     show(
-        b"240 keys, most of them equal",
-        index(ones, 0, 240, first, second),
+        b"3000 keys, most of them equal",
+        index(ones, 0, 3000, first, second),
     );
 }
 
@@ -55,7 +55,7 @@ fn key(selector: u8, number: u8) -> [u8; 9] {
 
 // An index of node id zero: two keys in front, and one byte in all other places.
 fn index(cap: [u8; 32], fill: u8, count: usize, first: [u8; 9], second: [u8; 9]) -> KeyIndex {
-    let mut keys = [fill; 2160];
+    let mut keys = [fill; key_index::LIMIT * key_index::WIDTH];
     octets::put(&first, &mut keys, 0);
     octets::put(&second, &mut keys, 9);
     KeyIndex {

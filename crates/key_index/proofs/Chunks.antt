@@ -51,7 +51,7 @@ chunks-rest n i b h =
     ∙ ap (λ (l : List ℕ). take 9 (drop (9 * i) b) ∷ chunks (n - suc i) l)
     (drop-drop 9 (9 * i) b ∙ ap (λ (k : ℕ). drop k b) f)
 
-drop-take : (m n : ℕ) (l : List ℕ) → drop m (take (m + n) l) ≡ take n (drop m l)
+pub drop-take : (m n : ℕ) (l : List ℕ) → drop m (take (m + n) l) ≡ take n (drop m l)
 drop-take zero n l = ap (λ (k : ℕ). take k l) (zero-add n)
 drop-take (suc m) n [] = ap (drop (suc m)) (take-nil (suc m + n)) ∙ sym (take-nil n)
 drop-take (suc m) n (x ∷ l) = ap (λ (k : ℕ). drop (suc m) (take k (x ∷ l))) (suc-add m n) ∙ drop-take m n l

@@ -7,6 +7,10 @@ use lib.Dec.{leb}
 use lib.ListN.{length, take, drop, replicate}
 use Rattle.key_index.specs.declared.KeyIndex.{KeyIndex}
 
+-- how many keys an index lists at most
+abbrev pub keyLimit : ℕ
+keyLimit = 3000
+
 pub record View : Type 0 where
   pub node : List ℕ
   pub cap : List ℕ
@@ -21,8 +25,12 @@ chunks (suc n) bytes = take 9 bytes ∷ chunks n (drop 9 bytes)
 unfoldable pub keyAt : List ℕ → ℕ → List ℕ
 keyAt bytes i = cond (leb (9 * suc i) (length bytes)) (take 9 (drop (9 * i) bytes)) (replicate 9 0)
 
+-- the view of an index with these parts, its keys the first `count` of a flat array
+abbrev pub viewOf : List ℕ → List ℕ → List ℕ → ℕ → View
+viewOf node cap bytes count = record { node = node; cap = cap; keys = chunks count bytes }
+
 abbrev pub view : KeyIndex → View
-view index = record { node = index .node; cap = index .cap; keys = chunks (index .count) (index .keys) }
+view index = viewOf (index .node) (index .cap) (index .keys) (index .count)
 
 -- a fresh index: no keys
 abbrev pub freshOf : List ℕ → List ℕ → View

@@ -3,7 +3,7 @@ ghost use mathlib.Core.Path.{_≡_};
 ghost use Rattle.refusal.specs.Outcome.{outcome, orZeros};
 ghost use Rattle.distance.specs.Distance.{xorOf};
 ghost use Rattle.content_key.specs.Key.{keyId};
-ghost use Rattle.key_index.specs.View.{view, freshOf, chunks, keyAt};
+ghost use Rattle.key_index.specs.View.{keyLimit, viewOf, view, freshOf, chunks, keyAt};
 ghost use Rattle.key_index.specs.Good.{good};
 ghost use Rattle.key_index.specs.Search.{placeOf};
 ghost use Rattle.key_index.specs.Calls.{radiusFor, holdsFor, holdingOf};
@@ -11,7 +11,7 @@ use refusal::Checked;
 use refusal::Refusal;
 
 // How many keys an index lists at most.
-pub const LIMIT: usize = 240;
+pub const LIMIT: usize = 3000;
 
 // The bytes of a key.
 pub const WIDTH: usize = 9;
@@ -56,10 +56,10 @@ pub fn fresh(node: [u8; 32], cap: [u8; 32]) -> KeyIndex
 
 // The announced radius: the cap, or the distance of the farthest key once the index is full.
 pub fn radius(index: KeyIndex) -> RadiusAnswer
-    ensures { λ r. ⌜ outcome (r .checked) (r .radius) ≡ radiusFor 240 (view index) ⌝ }
-    ensures { λ r. ⌜ r .radius ≡ orZeros 32 (radiusFor 240 (view index)) ⌝ }
+    ensures { λ r. ⌜ outcome (r .checked) (r .radius) ≡ radiusFor keyLimit (view index) ⌝ }
+    ensures { λ r. ⌜ r .radius ≡ orZeros 32 (radiusFor keyLimit (view index)) ⌝ }
 {
-    if !is_good(index) {
+    if !is_good(index.node, index.cap, &index.keys, index.count) {
         return RadiusAnswer {
             checked: Checked::Refused(Refusal::BadState),
             radius: [0u8; 32],
@@ -81,9 +81,9 @@ pub fn radius(index: KeyIndex) -> RadiusAnswer
 
 // Whether any bytes are a key that is held.
 pub fn holds(index: KeyIndex, bytes: &[u8]) -> Holding
-    ensures { λ r. ⌜ holdingOf r ≡ holdsFor 240 (view index) (now (bytes .entry)) ⌝ }
+    ensures { λ r. ⌜ holdingOf r ≡ holdsFor keyLimit (view index) (now (bytes .entry)) ⌝ }
 {
-    if !is_good(index) {
+    if !is_good(index.node, index.cap, &index.keys, index.count) {
         return Holding::Refused(Refusal::BadState);
     }
     let read = content_key::key(bytes);
@@ -99,24 +99,25 @@ pub fn holds(index: KeyIndex, bytes: &[u8]) -> Holding
     }
 }
 
-// Whether the index keeps its rules.
-pub fn is_good(index: KeyIndex) -> bool
-    ensures { λ r. ⌜ r ≡ good 240 (view index) ⌝ }
+// Whether an index with these parts keeps its rules, its keys the first `count` of an array. It takes the parts, and not the index, so
+// that no caller copies the array for it.
+pub fn is_good(node: [u8; 32], cap: [u8; 32], keys: &[u8], count: usize) -> bool
+    ensures { λ r. ⌜ r ≡ good keyLimit (viewOf node cap (now (keys .entry)) count) ⌝ }
 {
-    if LIMIT < index.count {
+    if LIMIT < count {
         return false;
     }
     let mut last = [0u8; 32];
-    for i in 0..index.count {
-        let key = key_at(&index.keys, i);
-        let far = away(index.node, key);
+    for i in 0..count {
+        let key = octets::part9(keys, i * WIDTH);
+        let far = away(node, key);
         if 1 < key[0] {
             return false;
         }
         if 0 < i && distance::at_most(far, last) {
             return false;
         }
-        if !distance::at_most(far, index.cap) {
+        if !distance::at_most(far, cap) {
             return false;
         }
         last = far;

@@ -1,62 +1,55 @@
--- The bytes behind a place, moved down by nine. A turn of the loop is one step of a copy (`paste`); at the end the array has the keys
--- before the place and then those behind it, by the laws on the keys of joined arrays. Assumes nothing.
+-- The keys behind a place, put one place down: the array then has the keys before the place and those behind it, by the laws on the keys
+-- of joined arrays. Assumes nothing.
 use Prim.Native.Nat.{ℕ, suc, _+_, _-_, _*_, _≤_, _<_}
 use native.Mathlib.Nat.{le-refl}
-use native.Mathlib.Numerals.{add-one}
 use native.Mathlib.Omega.{arith}
 use mathlib.Core.Path.{_≡_, sym, ap, ap₂, _∙_}
 use mathlib.Core.List.{List, _++_, append-assoc}
-use lib.ListN.{length, getD, set, take, drop, length-drop}
-use lib.Seq.{paste, paste-zero, paste-suc, getD-drop, take-at, length-take-le}
+use lib.ListN.{length, take, drop, length-drop}
+use lib.Seq.{take-at, length-take-le}
+use Rattle.octets.specs.Buffer.{placed}
+use Rattle.octets.proofs.Buffers.{placed-room}
 use Rattle.key_index.specs.View.{chunks}
 use Rattle.key_index.proofs.Chunks.{chunks-take, chunks-only, chunks-append, take-chunks, drop-chunks}
+use Rattle.key_remove.specs.Remove.{withoutAt}
 
--- the array with n bytes moved down to a place from behind it
-abbrev pub shifted : List ℕ → ℕ → ℕ → List ℕ
-shifted keys place n = paste keys (9 * place) (drop (9 * suc place) keys) n
-
-module _ (keys : List ℕ) (place : ℕ) where
-  -- none at first
-  pub shifted-none : keys ≡ shifted keys place 0
-  shifted-none = paste-zero keys (9 * place) (drop (9 * suc place) keys)
-
-  -- a turn moves one more; `to` and `from` are the code's sums
-  pub shifted-more : (d : List ℕ) (to from n : ℕ) → d ≡ shifted keys place n → to ≡ 9 * place + n → from ≡ 9 * suc place + n
-      → from < length keys → set d to (getD keys from 0) ≡ shifted keys place (n + 1)
-  shifted-more d to from n q t f h =
-      let s = drop (9 * suc place) keys in
-      let e : getD keys from 0 ≡ getD s n 0 = ap (λ (i : ℕ). getD keys i 0) f ∙ sym (getD-drop (9 * suc place) keys n 0) in
-      ap₂ (λ (x : List ℕ) (v : ℕ). set x to v) q e
-      ∙ ap (λ (i : ℕ). set (shifted keys place n) i (getD s n 0)) t
-      ∙ paste-suc keys (9 * place) s n 0 (omega arith) (omega (arith, length-drop (9 * suc place) keys))
-      ∙ ap (shifted keys place) (sym (add-one n))
-
-  keys-after : (m : ℕ) → 9 * (suc place + m) ≤ length keys
-      → chunks (place + m) (shifted keys place (9 * m)) ≡ take place (chunks (suc place + m) keys) ++ drop (suc place) (chunks (suc place + m) keys)
-  keys-after m l =
-      let a = take (9 * place) keys in
-      let s = drop (9 * suc place) keys in
+module _ (old : List ℕ) (place : ℕ) where
+  keys-after : (m : ℕ) (rest : List ℕ) → 9 * (suc place + m) ≤ length old
+      → chunks (place + m) (take (9 * place) old ++ (take (9 * m) (drop (9 * suc place) old) ++ rest))
+      ≡ withoutAt place (chunks (suc place + m) old)
+  unfolding withoutAt
+  keys-after m rest l =
+      let a = take (9 * place) old in
+      let s = drop (9 * suc place) old in
       let b = take (9 * m) s in
-      let r = drop (9 * place + 9 * m) keys in
       let k : suc place + m ≡ place + suc m = omega arith in
-      let long : length a ≡ 9 * place = length-take-le (9 * place) keys (omega arith) in
-      let front : chunks place a ≡ take place (chunks (suc place + m) keys) =
-      chunks-take place place keys (le-refl place) ∙ sym (ap (λ (n : ℕ). take place (chunks n keys)) k ∙ take-chunks place (suc m) keys) in
-      let back : chunks m (b ++ r) ≡ drop (suc place) (chunks (suc place + m) keys) =
-      chunks-only m (b ++ r) s (take-at b r (9 * m) (length-take-le (9 * m) s (omega (arith, length-drop (9 * suc place) keys))))
-      ∙ sym (drop-chunks (suc place) m keys) in
-      ap (chunks (place + m)) (append-assoc a b r)
-      ∙ chunks-append place m a (b ++ r) long
-      ∙ ap₂ (λ (x y : List (List ℕ)). x ++ y) front back
+      let long : length a ≡ 9 * place = length-take-le (9 * place) old (omega arith) in
+      let front : chunks place a ≡ take place (chunks (suc place + m) old) =
+      chunks-take place place old (le-refl place) ∙ sym (ap (λ (n : ℕ). take place (chunks n old)) k ∙ take-chunks place (suc m) old) in
+      let back : chunks m (b ++ rest) ≡ drop (suc place) (chunks (suc place + m) old) =
+      chunks-only m (b ++ rest) s (take-at b rest (9 * m) (length-take-le (9 * m) s (omega (arith, length-drop (9 * suc place) old))))
+      ∙ sym (drop-chunks (suc place) m old) in
+      chunks-append place m a (b ++ rest) long ∙ ap₂ (λ (x y : List (List ℕ)). x ++ y) front back
 
-  -- with all bytes of the keys behind it moved, the key at the place is gone
-  pub shifted-keys : (count n : ℕ) → place < count → 9 * count ≤ length keys → n ≡ (count - 1 - place) * 9
-      → chunks (count - 1) (shifted keys place n) ≡ take place (chunks count keys) ++ drop (suc place) (chunks count keys)
-  shifted-keys count n h l e =
+  -- with the keys behind it put at its place, in a copy, the key there is gone
+  pub moved-keys : (count : ℕ) (copy keys : List ℕ) → place < count → 9 * count ≤ length old → copy ≡ old
+      → keys ≡ placed copy (place * 9) (take (count * 9 - (place * 9 + 9)) (drop (place * 9 + 9) old))
+      → chunks (count - 1) keys ≡ withoutAt place (chunks count old)
+  moved-keys count copy keys h l same put =
       let m = count - 1 - place in
       let c : count ≡ suc place + m = omega arith in
       let d : count - 1 ≡ place + m = omega arith in
-      let f : n ≡ 9 * m = omega arith in
-      ap₂ (λ (i j : ℕ). chunks i (shifted keys place j)) d f
-      ∙ keys-after m (omega arith)
-      ∙ sym (ap (λ (i : ℕ). take place (chunks i keys) ++ drop (suc place) (chunks i keys)) c)
+      let at : place * 9 ≡ 9 * place = omega arith in
+      let from : place * 9 + 9 ≡ 9 * suc place = omega arith in
+      let n : count * 9 - (place * 9 + 9) ≡ 9 * m = omega arith in
+      let part = take (9 * m) (drop (9 * suc place) old) in
+      let rest = drop (9 * place + length part) old in
+      let size : length part ≡ 9 * m = length-take-le (9 * m) (drop (9 * suc place) old) (omega (arith, length-drop (9 * suc place) old)) in
+      ap₂ chunks d
+      (put
+      ∙ ap₂ (λ (b p : List ℕ). placed b (place * 9) p) same (ap₂ (λ (i j : ℕ). take i (drop j old)) n from)
+      ∙ ap (λ (i : ℕ). placed old i part) at
+      ∙ placed-room old (9 * place) part (omega arith)
+      ∙ append-assoc (take (9 * place) old) part rest)
+      ∙ keys-after m rest (omega arith)
+      ∙ sym (ap (λ (i : ℕ). withoutAt place (chunks i old)) c)

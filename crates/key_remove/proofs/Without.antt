@@ -20,16 +20,16 @@ use Rattle.key_index.specs.Keys.{Each}
 use Rattle.key_index.specs.Rules.{SortedFrom}
 use Rattle.key_index.proofs.Places.{place-inside, place-is, held-at}
 use Rattle.key_index.proofs.Rules.{good-facts, facts-good}
-use Rattle.key_remove.specs.Remove.{without, Split}
+use Rattle.key_remove.specs.Remove.{without, withoutAt, Split}
 
 -- the keys around the place where the key was found, counted from i
 record Around (i : ℕ) (key : List ℕ) (keys : List (List ℕ)) (j : ℕ) : Type 0 where
   place : ℕ
   counted : j ≡ i + place
-  rest : without key keys ≡ take place keys ++ drop (suc place) keys
+  rest : without key keys ≡ withoutAt place keys
 
 around : (i : ℕ) (key : List ℕ) (keys : List (List ℕ)) (j : ℕ) → placeFrom i key keys ≡ At j → Around i key keys j
-unfolding placeFrom without
+unfolding placeFrom without withoutAt
 around i key [] j e = let z : _≡_ {A = ℕ} 0 1 = cc in absurd (omega arith)
 around i key (k ∷ ks) j e = go (sameBytes key k) refl e (λ f. around (suc i) key ks j f)
   where
@@ -44,13 +44,14 @@ around i key (k ∷ ks) j e = go (sameBytes key k) refl e (λ f. around (suc i) 
         record { place = suc (b .place); counted = omega arith; rest = rw q (ap (λ (l : List (List ℕ)). k ∷ l) (b .rest)) }
 
 -- the keys before the place where the key is found, and those behind it, in the same order
-pub without-place : (key : List ℕ) (keys : List (List ℕ)) (i : ℕ) → placeOf key keys ≡ At i → without key keys ≡ take i keys ++ drop (suc i) keys
+pub without-place : (key : List ℕ) (keys : List (List ℕ)) (i : ℕ) → placeOf key keys ≡ At i → without key keys ≡ withoutAt i keys
 without-place key keys i e =
     let a = around 0 key keys i e in
-    a .rest ∙ sym (ap (λ (n : ℕ). take n keys ++ drop (suc n) keys) (a .counted ∙ zero-add (a .place)))
+    a .rest ∙ sym (ap (λ (n : ℕ). withoutAt n keys) (a .counted ∙ zero-add (a .place)))
 
 -- the others keep their order
 pub without-split : (key : List ℕ) (keys : List (List ℕ)) → holds sameBytes key keys ≡ true → Split key keys
+unfolding withoutAt
 without-split key keys h =
     let at = held-at key keys h in
     let i = at .0 in

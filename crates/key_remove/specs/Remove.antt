@@ -1,8 +1,9 @@
 -- Removing a key, on the view of an index, over the limit on its keys. The tests come in document 01's order: 0, 7, 8, 12.
-use Prim.Native.Nat.{ℕ}
+use Prim.Native.Nat.{ℕ, suc}
 use mathlib.Core.Bool.{cond}
 use mathlib.Core.List.{List, [], _∷_, _++_}
 use mathlib.Core.Path.{_≡_}
+use lib.ListN.{take, drop}
 use Rattle.refusal.specs.Says.{Said, only}
 use Rattle.refusal.specs.Outcome.{Outcome}
 use Rattle.octets.specs.Equal.{sameBytes}
@@ -20,6 +21,10 @@ pub data Removing : Type 0 where
 unfoldable pub without : List ℕ → List (List ℕ) → List (List ℕ)
 without key [] = []
 without key (k ∷ ks) = cond (sameBytes key k) ks (k ∷ without key ks)
+
+-- the keys without the one at a place
+unfoldable pub withoutAt : ℕ → List (List ℕ) → List (List ℕ)
+withoutAt place keys = take place keys ++ drop (suc place) keys
 
 -- a list of keys that holds one, taken apart around it
 pub record Split (key : List ℕ) (keys : List (List ℕ)) : Type 0 where

@@ -1,9 +1,10 @@
 -- The ways out of `store`, as cases of its definition, and an answer carried from one definition to another. Assumes nothing.
 use Prim.Native.Nat.{ℕ}
-use mathlib.Core.Path.{_≡_, ap, _∙_}
+use mathlib.Core.Path.{_≡_, sym, ap, _∙_}
 use mathlib.Core.Bool.{true, false}
 use mathlib.Core.List.{List}
 use lib.Dec.{leb}
+use lib.ListN.{replicate}
 use Rattle.refusal.specs.Says.{Said, only}
 use Rattle.refusal.specs.Outcome.{Outcome}
 use Rattle.octets.specs.Bytes.{be}
@@ -15,13 +16,17 @@ use Rattle.key_index.specs.Good.{awayFrom, good, radiusOf}
 use Rattle.key_index.specs.Calls.{isHeld}
 use Rattle.key_index.specs.declared.KeyIndex.{KeyIndex}
 use Rattle.key_store.specs.Store.{Storing, refused, putOf, admitOf, contentStoreOf, keyStoreOf, storeOf}
-use Rattle.key_store.specs.Answer.{givenBy, meaningOf, evictedOr0}
+use Rattle.key_store.specs.Answer.{back, givenBy, meaningOf, evictedOr0}
 use Rattle.key_store.specs.declared.StoreAnswer.{StoreAnswer}
 
 -- what an answer says of an outcome, it says of any way to write the outcome
-pub answer-as : (index : KeyIndex) (r : StoreAnswer) (a s : Storing) → (meaningOf r ≡ givenBy index a) × (r .evicted ≡ evictedOr0 a) → a ≡ s
+pub answer-as : (index : KeyIndex) (r : StoreAnswer) (a s : Storing) → (meaningOf r ≡ givenBy index a) × (r .evicted ≡ evictedOr0 a) → s ≡ a
     → (meaningOf r ≡ givenBy index s) × (r .evicted ≡ evictedOr0 s)
-answer-as index r a s h e = (h .0 ∙ ap (givenBy index) e, h .1 ∙ ap evictedOr0 e)
+answer-as index r a s h e = (h .0 ∙ ap (givenBy index) (sym e), h .1 ∙ ap evictedOr0 (sym e))
+
+-- a refused call hands the index back
+pub refused-as : (index : KeyIndex) (s : Storing) (says : Said) → s ≡ refused says → (back says index ≡ givenBy index s) × (replicate 9 0 ≡ evictedOr0 s)
+refused-as index s says e = (ap (givenBy index) (sym e), ap evictedOr0 (sym e))
 
 module _ (limit : ℕ) (v : View) (key : List ℕ) (payload : Payload) where
   pub admit-held : isHeld key v ≡ true → refused (only 11) ≡ admitOf limit v key payload

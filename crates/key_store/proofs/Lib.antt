@@ -4,6 +4,7 @@ pub mod Flat
 pub mod Facts
 pub mod Putting
 pub mod Answers
+pub mod Verdicts
 pub mod Cases
 pub mod After
 pub mod Payloads

@@ -5,28 +5,27 @@ use native.Mathlib.Nat.{le-of-lt}
 use native.Mathlib.Numerals.{add-one}
 use native.Mathlib.Omega.{arith}
 use mathlib.Core.Path.{_≡_, sym, ap, ap₂, subst, _∙_}
-use mathlib.Core.Bool.{true, false}
 use mathlib.Core.List.{List, [], _∷_, _++_}
-use lib.ListN.{length, take, drop}
-use borrow.Author.Tests.{lt-ltb, le-ltb}
-use Rattle.octets.specs.Bytes.{be}
+use lib.ListN.{length, take, drop, replicate}
+use borrow.Author.Tests.{leb-true, lt-ltb, le-ltb}
 use Rattle.rlp.specs.declared.Payload.{Payload}
 use Rattle.nearest.specs.Sorted.{_among_, distances}
 use Rattle.nearest.specs.Insert.{insert, offer}
 use Rattle.nearest.proofs.Sorted.{distances-front}
 use Rattle.nearest.proofs.Offer.{offer-near}
-use Rattle.key_index.specs.View.{View, view, chunks, keyAt, withKeys}
-use Rattle.key_index.specs.Good.{awayFrom, good, lastOf, radiusOf}
-use Rattle.key_index.specs.Calls.{isHeld}
+use Rattle.key_index.specs.View.{View, viewOf, view, chunks, keyAt, withKeys}
+use Rattle.key_index.specs.Good.{awayFrom, lastOf}
+use Rattle.key_index.specs.Keys.{NineBytes}
 use Rattle.key_index.specs.declared.KeyIndex.{KeyIndex}
 use Rattle.key_index.proofs.Chunks.{chunks-length, chunks-more, keyAt-in}
 use Rattle.key_index.proofs.Rules.{good-facts}
 use Rattle.key_store.specs.Store.{stored, evicted, putOf}
-use Rattle.key_store.specs.Move.{nearer, keyAtPlace, withBytes}
+use Rattle.key_store.specs.Answer.{now, without, givenBy, evictedOr0}
+use Rattle.key_store.specs.Move.{nearer, keyAtPlace}
+use Rattle.key_store.specs.Judge.{Fits}
+use Rattle.key_store.specs.Cases.{OfBytes}
 use Rattle.key_store.proofs.Nearer.{nearer-most, nearer-front, insert-behind}
 use Rattle.key_store.proofs.Flat.{chunks-place}
-use Rattle.key_index.specs.Keys.{NineBytes}
-use Rattle.key_store.specs.Cases.{OfBytes}
 use Rattle.key_store.proofs.Facts.{sorted-near, new-distance, nearer-last, full-count, full-last}
 
 module _ (limit : ℕ) (v : View) (key : List ℕ) (payload : Payload) where
@@ -50,62 +49,80 @@ module _ (node key b : List ℕ) (l : length key ≡ 9) where
       ∙ ap (λ (q : ℕ). take q (chunks count b) ++ key ∷ drop q (chunks count b)) e
       ∙ sym (insert-behind node key (chunks count b) new)
 
--- a key put at a place that is p
-pub same-place : (index : KeyIndex) (count from to p : ℕ) (key keys : List ℕ) {next : KeyIndex}
-    → next ≡ withBytes index count (keyAtPlace from to key keys) → from ≡ p → next ≡ withBytes index count (keyAtPlace p to key keys)
-same-place index count from to p key keys e at = e ∙ ap (λ (k : ℕ). withBytes index count (keyAtPlace k to key keys)) at
-
 -- the index with the key at place p, behind the nearer keys, has the view that the definition gives
-module _ (index : KeyIndex) (key : List ℕ) (payload : Payload) (o : OfBytes (view index)) (nine : NineBytes key) (out : isHeld key (view index) ≡ false)
-    (p : ℕ) (is : p ≡ nearer (index .node) (awayFrom (index .node) key) (chunks (index .count) (index .keys))) where
-  pub room-answer : (limit : ℕ) → index .count < limit → 9 * limit ≤ length (index .keys)
-      → stored payload (view (withBytes index (index .count + 1) (keyAtPlace p (index .count) key (index .keys)))) ≡ putOf limit (view index) key payload
-  room-answer limit h long =
-      ap (λ (ks : List (List ℕ)). stored payload (withKeys (view index) ks))
-      (ap (λ (n : ℕ). chunks n (keyAtPlace p (index .count) key (index .keys))) (add-one (index .count))
-      ∙ chunks-room (index .node) key (index .keys) (nine .size) (index .count) p (omega arith) is (new-distance (view index) key o nine out))
-      ∙ sym (put-room limit (view index) key payload (omega (arith, chunks-length (index .count) (index .keys))))
+module _ (limit : ℕ) (index : KeyIndex) (key : List ℕ) (o : OfBytes (view index)) (nine : NineBytes key) (p : ℕ)
+    (f : Fits limit (view index) key p) where
+  new : ¬ (awayFrom (index .node) key among distances (awayFrom (index .node)) (chunks (index .count) (index .keys)))
+  new = new-distance (view index) key o nine (f .new)
 
-  -- a full index, and a key within its radius
-  module _ (n : ℕ) (g : good (suc n) (view index) ≡ true) (h : suc n ≤ index .count) (long : 9 * suc n ≤ length (index .keys))
-      (within : awayFrom (index .node) key ≤ be (radiusOf (suc n) (view index))) where
-    full : index .count ≡ suc n
-    full = full-count n (index .count) (index .node) (index .cap) (index .keys) g h
+  -- the place is among those in use, or right behind them
+  pub place-most : p ≤ index .count
+  place-most =
+      let most = nearer-most (index .node) (awayFrom (index .node) key) (chunks (index .count) (index .keys)) in
+      omega (arith, f .at, chunks-length (index .count) (index .keys))
 
-    new : ¬ (awayFrom (index .node) key among distances (awayFrom (index .node)) (chunks (index .count) (index .keys)))
-    new = new-distance (view index) key o nine out
+  -- `from`, `to`, `n`, `keys` and `handed` are what the code has
+  pub room-answer : (payload : Payload) → index .count < limit → 9 * limit ≤ length (index .keys) → (from to n : ℕ) (keys : List ℕ) (handed : Payload)
+      → keys ≡ keyAtPlace from to key (index .keys) → from ≡ p → to ≡ index .count → n ≡ index .count + 1 → handed ≡ payload
+      → (now handed (viewOf (index .node) (index .cap) keys n) ≡ givenBy index (putOf limit (view index) key payload))
+      × (replicate 9 0 ≡ evictedOr0 (putOf limit (view index) key payload))
+  room-answer payload h long from to n keys handed is a b c d =
+      let due = sym (put-room limit (view index) key payload (omega (arith, chunks-length (index .count) (index .keys)))) in
+      let held : chunks n keys ≡ insert (awayFrom (index .node)) key (chunks (index .count) (index .keys)) =
+      ap₂ chunks (c ∙ add-one (index .count)) (is ∙ ap₂ (λ (i j : ℕ). keyAtPlace i j key (index .keys)) a b)
+      ∙ chunks-room (index .node) key (index .keys) (nine .size) (index .count) p (omega arith) (f .at) new in
+      (ap₂ (λ (q : Payload) (ks : List (List ℕ)). now q (withKeys (view index) ks)) d held ∙ ap (givenBy index) due, ap evictedOr0 due)
 
-    before : awayFrom (index .node) key < awayFrom (index .node) (lastOf (chunks (index .count) (index .keys)))
-    before = nearer-last (suc n) (view index) key (omega (arith, chunks-length (index .count) (index .keys))) (omega arith) new within
+-- a full index, whose last place is `last`
+module _ (last : ℕ) (index : KeyIndex) (key : List ℕ) (o : OfBytes (view index)) (nine : NineBytes key) (p : ℕ)
+    (f : Fits (suc last) (view index) key p) (h : suc last ≤ index .count) (long : 9 * suc last ≤ length (index .keys)) where
+  full : index .count ≡ suc last
+  full = full-count last (index .count) (index .node) (index .cap) (index .keys) (f .kept) h
 
-    apart : chunks (index .count) (index .keys) ≡ chunks n (index .keys) ++ lastOf (chunks (index .count) (index .keys)) ∷ []
-    apart =
-        ap (λ (m : ℕ). chunks m (index .keys)) full
-        ∙ chunks-more n (index .keys)
-        ∙ ap (λ (k : List ℕ). chunks n (index .keys) ++ k ∷ [])
-        (sym (keyAt-in (index .keys) n long) ∙ full-last n (index .count) (index .node) (index .cap) (index .keys) g h long)
+  before : awayFrom (index .node) key < awayFrom (index .node) (lastOf (chunks (index .count) (index .keys)))
+  before =
+      nearer-last (suc last) (view index) key (omega (arith, chunks-length (index .count) (index .keys))) (omega arith)
+      (new (suc last) index key o nine p f) (leb-true _ _ (f .near))
 
-    -- the key's place is among the others'
-    place : p ≡ nearer (index .node) (awayFrom (index .node) key) (chunks n (index .keys))
-    place =
-        is
-        ∙ ap (nearer (index .node) (awayFrom (index .node) key)) apart
-        ∙ nearer-front (index .node) (awayFrom (index .node) key) (chunks n (index .keys)) (lastOf (chunks (index .count) (index .keys))) (le-of-lt before)
+  apart : chunks (index .count) (index .keys) ≡ chunks last (index .keys) ++ lastOf (chunks (index .count) (index .keys)) ∷ []
+  apart =
+      ap (λ (m : ℕ). chunks m (index .keys)) full
+      ∙ chunks-more last (index .keys)
+      ∙ ap (λ (k : List ℕ). chunks last (index .keys) ++ k ∷ [])
+      (sym (keyAt-in (index .keys) last long) ∙ full-last last (index .count) (index .node) (index .cap) (index .keys) (f .kept) h long)
 
-    pub full-place : p ≤ n
-    full-place =
-        let most = nearer-most (index .node) (awayFrom (index .node) key) (chunks n (index .keys)) in
-        omega (arith, place, chunks-length n (index .keys))
+  -- the key's place is among the others'
+  place : p ≡ nearer (index .node) (awayFrom (index .node) key) (chunks last (index .keys))
+  place =
+      f .at
+      ∙ ap (nearer (index .node) (awayFrom (index .node) key)) apart
+      ∙ nearer-front (index .node) (awayFrom (index .node) key) (chunks last (index .keys)) (lastOf (chunks (index .count) (index .keys))) (le-of-lt before)
 
-    pub full-answer : (last : List ℕ) → last ≡ keyAt (index .keys) n
-        → evicted payload last (view (withBytes index (suc n) (keyAtPlace p n key (index .keys)))) ≡ putOf (suc n) (view index) key payload
-    full-answer last read =
-        let ks = chunks (index .count) (index .keys) in
-        ap₂ (λ (k : List ℕ) (l : List (List ℕ)). evicted payload k (withKeys (view index) l))
-        (read ∙ full-last n (index .count) (index .node) (index .cap) (index .keys) g h long)
-        (chunks-room (index .node) key (index .keys) (nine .size) n p long place
-        (λ m. new (subst (λ (l : List (List ℕ)). awayFrom (index .node) key among distances (awayFrom (index .node)) l) (sym apart) (distances-front (awayFrom (index .node)) (chunks n (index .keys)) (lastOf ks ∷ []) m)))
-        ∙ sym (offer-near (awayFrom (index .node)) key (suc n) ks (chunks n (index .keys)) (lastOf ks)
-        (sorted-near (index .node) 0 ks (good-facts (suc n) (view index) g .each .sorted))
-        (chunks-length (index .count) (index .keys) ∙ full) apart new before))
-        ∙ sym (put-full (suc n) (view index) key payload (omega (arith, chunks-length (index .count) (index .keys))))
+  pub full-place : p ≤ last
+  full-place =
+      let most = nearer-most (index .node) (awayFrom (index .node) key) (chunks last (index .keys)) in
+      omega (arith, place, chunks-length last (index .keys))
+
+  pub full-answer : (payload : Payload) (from to n at : ℕ) (keys left : List ℕ) (handed : Payload)
+      → keys ≡ keyAtPlace from to key (index .keys) → left ≡ keyAt (index .keys) at
+      → from ≡ p → to ≡ last → n ≡ suc last → at ≡ last → handed ≡ payload
+      → (without handed left (viewOf (index .node) (index .cap) keys n) ≡ givenBy index (putOf (suc last) (view index) key payload))
+      × (left ≡ evictedOr0 (putOf (suc last) (view index) key payload))
+  full-answer payload from to n at keys left handed is read a b c d e =
+      let ks = chunks (index .count) (index .keys) in
+      let fresh = new (suc last) index key o nine p f in
+      let due = sym (put-full (suc last) (view index) key payload (omega (arith, chunks-length (index .count) (index .keys)))) in
+      let gone : left ≡ lastOf ks =
+      read ∙ ap (keyAt (index .keys)) d ∙ full-last last (index .count) (index .node) (index .cap) (index .keys) (f .kept) h long in
+      let held : chunks n keys ≡ offer (awayFrom (index .node)) (suc last) key ks =
+      ap₂ chunks c (is ∙ ap₂ (λ (i j : ℕ). keyAtPlace i j key (index .keys)) a b)
+      ∙ chunks-room (index .node) key (index .keys) (nine .size) last p long place
+      (λ m. fresh (subst (λ (l : List (List ℕ)). awayFrom (index .node) key among distances (awayFrom (index .node)) l) (sym apart) (distances-front (awayFrom (index .node)) (chunks last (index .keys)) (lastOf ks ∷ []) m)))
+      ∙ sym (offer-near (awayFrom (index .node)) key (suc last) ks (chunks last (index .keys)) (lastOf ks)
+      (sorted-near (index .node) 0 ks (good-facts (suc last) (view index) (f .kept) .each .sorted))
+      (chunks-length (index .count) (index .keys) ∙ full) apart fresh before) in (
+        ap (λ (q : Payload). without q left (viewOf (index .node) (index .cap) keys n)) e
+            ∙ ap₂ (λ (k : List ℕ) (l : List (List ℕ)). without payload k (withKeys (view index) l)) gone held
+            ∙ ap (givenBy index) due,
+        gone ∙ ap evictedOr0 due,
+      )

@@ -1,19 +1,15 @@
 // Storing a key in the index.
-ghost use Prim.Native.Nat.{_+_, _*_, _≤_, _<_};
+ghost use Prim.Native.Nat.{_*_, _≤_, _<_};
 ghost use mathlib.Core.Path.{_≡_};
-ghost use mathlib.Core.Bool.{true, false};
-ghost use lib.Dec.{leb};
+ghost use mathlib.Core.Bool.{true};
 ghost use lib.ListN.{length, replicate};
-ghost use Rattle.refusal.specs.Says.{saysOf};
 ghost use Rattle.octets.specs.Bytes.{be};
-ghost use Rattle.distance.specs.Distance.{xorOf};
-ghost use Rattle.content_key.specs.Key.{keyId};
-ghost use Rattle.key_index.specs.View.{view, chunks};
-ghost use Rattle.key_index.specs.Good.{awayFrom, good, radiusOf};
-ghost use Rattle.key_index.specs.Calls.{isHeld};
-ghost use Rattle.key_store.specs.Store.{storeOf, admitOf, putOf};
-ghost use Rattle.key_store.specs.Answer.{back, givenBy, meaningOf, storeFor, evictedOr0};
-ghost use Rattle.key_store.specs.Move.{nearer, raisedBy, keyAtPlace, withBytes};
+ghost use Rattle.key_index.specs.View.{keyLimit, viewOf, view, chunks};
+ghost use Rattle.key_index.specs.Good.{good, radiusOf};
+ghost use Rattle.key_store.specs.Store.{storeOf, putOf};
+ghost use Rattle.key_store.specs.Answer.{givenBy, meaningOf, storeFor, evictedOr0};
+ghost use Rattle.key_store.specs.Move.{nearer, keyAtPlace};
+ghost use Rattle.key_store.specs.Judge.{Judges, Admits, Fits};
 use key_index::KeyIndex;
 use key_index::LIMIT;
 use key_index::Place;
@@ -38,81 +34,111 @@ pub struct StoreAnswer {
     pub index: KeyIndex,
 }
 
-// Stores any bytes as a key, with any bytes as its content.
+// What is known of a store call before anything is changed: why it is refused, or the key's place among those held, and the payload's.
+enum Verdict {
+    Refused(Refusal),
+    At(usize, Payload),
+}
+
+// A verdict, and the key that the bytes are; zeros where the call is refused.
+struct Judged {
+    verdict: Verdict,
+    key: [u8; 9],
+}
+
+// Stores any bytes as a key, with any bytes as its content. The parts of the index are judged where they lie.
 pub fn store(index: KeyIndex, bytes: &[u8], content: &[u8]) -> StoreAnswer
-    ensures { λ r. ⌜ meaningOf r ≡ storeFor 240 index (now (bytes .entry)) (now (content .entry)) ⌝ }
-    ensures { λ r. ⌜ r .evicted ≡ evictedOr0 (storeOf 240 (view index) (now (bytes .entry)) (now (content .entry))) ⌝ }
+    ensures { λ r. ⌜ meaningOf r ≡ storeFor keyLimit index (now (bytes .entry)) (now (content .entry)) ⌝ }
+    ensures { λ r. ⌜ r .evicted ≡ evictedOr0 (storeOf keyLimit (view index) (now (bytes .entry)) (now (content .entry))) ⌝ }
 {
-    if !key_index::is_good(index) {
-        return refused(index, Refusal::BadState);
+    let judged = judge(
+        index.node,
+        index.cap,
+        &index.keys,
+        index.count,
+        bytes,
+        content,
+    );
+    let verdict = judged.verdict;
+    match verdict {
+        Verdict::Refused(why) => StoreAnswer {
+            stored: Stored::Refused(why),
+            evicted: [0u8; 9],
+            index,
+        },
+        Verdict::At(place, payload) => {
+            let key = judged.key;
+            put(index, place, key, payload)
+        }
+    }
+}
+
+// The tests of a store call, in order, on the parts of an index.
+fn judge(
+    node: [u8; 32],
+    cap: [u8; 32],
+    keys: &[u8],
+    count: usize,
+    bytes: &[u8],
+    content: &[u8],
+) -> Judged
+    requires { ⌜ length (now keys) ≡ 9 * keyLimit ⌝ }
+    ensures { λ r. ⌜ Judges keyLimit (viewOf node cap (now (keys .entry)) count) (now (bytes .entry)) (now (content .entry)) r ⌝ }
+{
+    if !key_index::is_good(node, cap, keys, count) {
+        return refused(Refusal::BadState);
     }
     let read = content_key::key(bytes);
     let checked = read.checked;
     if let Checked::Refused(why) = checked {
-        return refused(index, why);
+        return refused(why);
     }
     let nine = read.key;
     let examined = rlp::check(content);
     match examined {
-        Examined::Accepted(payload) => admitted(index, nine, payload),
-        Examined::Refused(why) => refused(index, why),
+        Examined::Accepted(payload) => admit(node, cap, keys, count, nine, payload),
+        Examined::Refused(why) => refused(why),
     }
 }
 
-// A key with acceptable content: refused where it is held or too far, else stored.
-fn admitted(index: KeyIndex, key: [u8; 9], payload: Payload) -> StoreAnswer
-    requires { ⌜ good 240 (view index) ≡ true ⌝ }
-    ensures { λ r. ⌜ meaningOf r ≡ givenBy index (admitOf 240 (view index) key payload) ⌝ }
-    ensures { λ r. ⌜ r .evicted ≡ evictedOr0 (admitOf 240 (view index) key payload) ⌝ }
+// A key with acceptable content: refused where it is held or too far, else its place.
+fn admit(
+    node: [u8; 32],
+    cap: [u8; 32],
+    keys: &[u8],
+    count: usize,
+    key: [u8; 9],
+    payload: Payload,
+) -> Judged
+    requires { ⌜ length (now keys) ≡ 9 * keyLimit ⌝ }
+    requires { ⌜ good keyLimit (viewOf node cap (now keys) count) ≡ true ⌝ }
+    ensures { λ r. ⌜ Admits keyLimit (viewOf node cap (now (keys .entry)) count) key payload r ⌝ }
 {
-    let place = key_index::find(&index.keys, index.count, key);
-    if let Place::At(_) = place {
-        return refused(index, Refusal::AlreadyHeld);
+    let held = key_index::find(keys, count, key);
+    if let Place::At(_) = held {
+        return refused(Refusal::AlreadyHeld);
     }
-    let far = key_index::away(index.node, key);
-    if !distance::at_most(far, reach(index)) {
-        return refused(index, Refusal::BeyondRadius);
+    let far = key_index::away(node, key);
+    if !distance::at_most(far, reach(node, cap, keys, count)) {
+        return refused(Refusal::BeyondRadius);
     }
-    put(index, key, far, payload)
+    let place = nearer_keys(keys, count, node, far);
+    Judged {
+        verdict: Verdict::At(place, payload),
+        key,
+    }
 }
 
 // The announced radius.
-fn reach(index: KeyIndex) -> [u8; 32]
-    requires { ⌜ good 240 (view index) ≡ true ⌝ }
-    ensures { λ r. ⌜ r ≡ radiusOf 240 (view index) ⌝ }
+fn reach(node: [u8; 32], cap: [u8; 32], keys: &[u8], count: usize) -> [u8; 32]
+    requires { ⌜ length (now keys) ≡ 9 * keyLimit ⌝ }
+    requires { ⌜ good keyLimit (viewOf node cap (now keys) count) ≡ true ⌝ }
+    ensures { λ r. ⌜ r ≡ radiusOf keyLimit (viewOf node cap (now (keys .entry)) count) ⌝ }
 {
-    if index.count < LIMIT {
-        return index.cap;
-    }
-    key_index::away(index.node, key_index::key_at(&index.keys, LIMIT - 1))
-}
-
-// A key that is not held and within the radius, at the distance `far`, is stored.
-fn put(index: KeyIndex, key: [u8; 9], far: [u8; 32], payload: Payload) -> StoreAnswer
-    requires { ⌜ good 240 (view index) ≡ true ⌝ }
-    requires { ⌜ isHeld key (view index) ≡ false ⌝ }
-    requires { ⌜ leb (awayFrom (index .node) key) (be (radiusOf 240 (view index))) ≡ true ⌝ }
-    requires { ⌜ far ≡ xorOf (index .node) (keyId key) ⌝ }
-    ensures { λ r. ⌜ meaningOf r ≡ givenBy index (putOf 240 (view index) key payload) ⌝ }
-    ensures { λ r. ⌜ r .evicted ≡ evictedOr0 (putOf 240 (view index) key payload) ⌝ }
-{
-    let count = index.count;
-    let at = nearer_keys(&index.keys, count, index.node, far);
     if count < LIMIT {
-        let more = with_key(index, count + 1, at, count, key);
-        return StoreAnswer {
-            stored: Stored::Kept(payload),
-            evicted: [0u8; 9],
-            index: more,
-        };
+        return cap;
     }
-    let last = key_index::key_at(&index.keys, LIMIT - 1);
-    let full = with_key(index, LIMIT, at, LIMIT - 1, key);
-    StoreAnswer {
-        stored: Stored::Evicting(payload),
-        evicted: last,
-        index: full,
-    }
+    key_index::away(node, key_index::key_at(keys, LIMIT - 1))
 }
 
 // How many of the first `count` keys are nearer than the distance `far`, up to the first that is not.
@@ -129,49 +155,59 @@ fn nearer_keys(keys: &[u8], count: usize, node: [u8; 32], far: [u8; 32]) -> usiz
     count
 }
 
-// The index with `count` keys: those at the places `from` up to `to` moved up by one, and the key at `from`.
-fn with_key(index: KeyIndex, count: usize, from: usize, to: usize, key: [u8; 9]) -> KeyIndex
-    requires { ⌜ (from ≤ to) × (to < 240) ⌝ }
-    ensures { λ r. ⌜ r ≡ withBytes index count (keyAtPlace from to key (index .keys)) ⌝ }
+// A key that is not held and within the radius is stored at its place.
+fn put(index: KeyIndex, place: usize, key: [u8; 9], payload: Payload) -> StoreAnswer
+    requires { ⌜ Fits keyLimit (view index) key place ⌝ }
+    ensures { λ r. ⌜ meaningOf r ≡ givenBy index (putOf keyLimit (view index) key payload) ⌝ }
+    ensures { λ r. ⌜ r .evicted ≡ evictedOr0 (putOf keyLimit (view index) key payload) ⌝ }
 {
-    let old = index.keys;
-    let mut keys = raised(old, from * WIDTH, to * WIDTH);
-    octets::put(&key, &mut keys, from * WIDTH);
-    replaced(index, count, keys)
-}
-
-// The index with another count and other keys.
-fn replaced(index: KeyIndex, count: usize, keys: [u8; 2160]) -> KeyIndex
-    ensures { λ r. ⌜ r ≡ withBytes index count keys ⌝ }
-{
-    let mut next = index;
-    next.keys = keys;
-    next.count = count;
-    next
-}
-
-// The bytes from `start` up to `end` moved up by nine.
-fn raised(keys: [u8; 2160], start: usize, end: usize) -> [u8; 2160]
-    requires { ⌜ (start ≤ end) × (end + 9 ≤ 2160) ⌝ }
-    ensures { λ r. ⌜ r ≡ raisedBy start end keys ⌝ }
-{
-    let mut moved = keys;
-    let mut j = end;
-    while start < j {
-        j -= 1;
-        moved[j + 9] = moved[j];
+    let node = index.node;
+    let cap = index.cap;
+    let mut keys = index.keys;
+    if index.count < LIMIT {
+        with_key(&index.keys, place, index.count, key, &mut keys);
+        let more = index.count + 1;
+        return StoreAnswer {
+            stored: Stored::Kept(payload),
+            evicted: [0u8; 9],
+            index: KeyIndex {
+                node,
+                cap,
+                count: more,
+                keys,
+            },
+        };
     }
-    moved
+    let last = key_index::key_at(&index.keys, LIMIT - 1);
+    with_key(&index.keys, place, LIMIT - 1, key, &mut keys);
+    StoreAnswer {
+        stored: Stored::Evicting(payload),
+        evicted: last,
+        index: KeyIndex {
+            node,
+            cap,
+            count: LIMIT,
+            keys,
+        },
+    }
 }
 
-// A refused call: the very index.
-fn refused(index: KeyIndex, why: Refusal) -> StoreAnswer
-    ensures { λ r. ⌜ meaningOf r ≡ back (saysOf why) index ⌝ }
-    ensures { λ r. ⌜ r .evicted ≡ replicate 9 0 ⌝ }
+// In a copy of the keys: those at the places `from` up to `to` one place up, and the key at `from`.
+fn with_key(old: &[u8], from: usize, to: usize, key: [u8; 9], keys: &mut [u8])
+    requires { ⌜ (from ≤ to) × (to < keyLimit) ⌝ }
+    requires { ⌜ (length (now old) ≡ 9 * keyLimit) × (now keys ≡ now old) ⌝ }
+    ensures { λ r. ⌜ now (keys .exit) ≡ keyAtPlace from to key (now (old .entry)) ⌝ }
 {
-    StoreAnswer {
-        stored: Stored::Refused(why),
-        evicted: [0u8; 9],
-        index,
+    octets::put(&old[from * WIDTH..to * WIDTH], keys, from * WIDTH + WIDTH);
+    octets::put(&key, keys, from * WIDTH);
+}
+
+// A refused call.
+fn refused(why: Refusal) -> Judged
+    ensures { λ r. ⌜ r ≡ record { verdict = Verdict.Refused why; key = replicate 9 0 } ⌝ }
+{
+    Judged {
+        verdict: Verdict::Refused(why),
+        key: [0u8; 9],
     }
 }

@@ -1,5 +1,6 @@
 -- FoundContent messages: one with content or a connection id, and one with records; and when each is due. Assumes nothing.
 use Prim.Native.Nat.{ℕ, _+_, _≤_, _<_}
+use native.Mathlib.Decide.{ℕ-discrete}
 use native.Mathlib.Omega.{arith}
 use mathlib.Core.Path.{_≡_, refl, sym, ap, subst, _∙_}
 use mathlib.Core.Bool.{Bool, true, false, _&&_}
@@ -12,21 +13,24 @@ use borrow.Author.Tests.{le-leb, lt-leb, lt-ltb, le-ltb}
 use Rattle.refusal.specs.Outcome.{given, refused, orZeros}
 use Rattle.refusal.proofs.Outcomes.{given-not}
 use Rattle.refusal.specs.Buffer.{Writes}
-use Rattle.refusal.specs.declared.Refusal.{Refusal}
 use Rattle.refusal.specs.declared.Wrote.{Wrote}
 use Rattle.octets.specs.Bytes.{le}
 use Rattle.octets.specs.Equal.{allDifferent}
+use Rattle.octets.specs.Parts.{bytesAt}
+use Rattle.octets.proofs.Parts.{bytes-at-all}
 use Rattle.content_key.specs.Key.{keyOf, keyId, contentIdOf}
+use Rattle.content_key.proofs.Keys.{key-length}
 use Rattle.message.specs.Values.{foundContent}
 use Rattle.message.specs.Encode.{joined}
 use Rattle.message.specs.Rules.{one, present, connected, recordSizes, rulesOf}
 use Rattle.message_write.specs.Lent.{lent}
 use Rattle.message_write.specs.Write.{bytesForLent}
 use Rattle.key_index.specs.View as keys
-use Rattle.key_index.specs.Good as rules
-use Rattle.key_index.specs.Calls.{isHeld, holdsFor, holdingOf}
-use Rattle.key_index.specs.declared.Holding.{Holding}
-use Rattle.key_index.specs.declared.Holding.the-variants.{Yes, No}
+use Rattle.key_index.specs.Search.{placeOf}
+use Rattle.key_index.specs.Calls.{isHeld}
+use Rattle.key_index.specs.declared.Place.{Place}
+use Rattle.key_index.specs.declared.Place.the-variants.{At, Nothing}
+use Rattle.key_index.proofs.Places.{at-held, nothing-held}
 use Rattle.replies.specs.Groups.{firstGroup}
 use Rattle.replies.specs.Room.{room, bytesWith}
 use Rattle.replies.specs.Content.{noConnection, heldReply, contentFit}
@@ -136,20 +140,25 @@ group-part lens rs e head is g f =
     ap (λ (k : ℕ). take k rs) n ∙ sym (first-take (room 13) rs)
     ∙ ap (λ (fit : List (List ℕ) → Bool). firstGroup fit [] rs) (sym content-room)
 
--- whether a key is held, by the answer of `holds`
-module _ (held : keys.View) (key : List ℕ) (good : rules.good 240 held ≡ true) (is : keyOf key ≡ given key) (h : Holding)
-    (says : holdingOf h ≡ holdsFor 240 held key) where
-  known : holdingOf h ≡ given (isHeld key held)
-  known = says ∙ rw (good, is)
+-- what is read as a key has nine bytes
+nine-bytes : (key : List ℕ) → keyOf key ≡ given key → length key ≡ 9
+nine-bytes key is = by (ℕ-discrete (length key) 9)
+  where
+    by : Dec (length key ≡ 9) → length key ≡ 9
+    by (yes h) = h
+    by (no h) = given-not (sym is ∙ key-length key h)
 
-  pub is-held : h ≡ Yes → isHeld key held ≡ true
-  is-held e = let q : given true ≡ given (isHeld key held) = sym (ap holdingOf e) ∙ known in cc
+-- whether a key is held, by where it is found
+module _ (held : keys.View) (key nine : List ℕ) (is : keyOf key ≡ given key) (read : nine ≡ bytesAt 9 0 key) (p : Place)
+    (found : p ≡ placeOf nine (held .keys)) where
+  there : placeOf key (held .keys) ≡ p
+  there = ap (λ (k : List ℕ). placeOf k (held .keys)) (sym (read ∙ bytes-at-all 9 key (nine-bytes key is))) ∙ sym found
 
-  pub not-held : h ≡ No → isHeld key held ≡ false
-  not-held e = let q : given false ≡ given (isHeld key held) = sym (ap holdingOf e) ∙ known in cc
+  pub is-held : {i : ℕ} → p ≡ At i → isHeld key held ≡ true
+  is-held {i} e = at-held key (held .keys) i (there ∙ e)
 
-  pub never-refused : {A : Type 0} {why : Refusal} → h ≡ Holding.Refused why → A
-  never-refused e = given-not (sym known ∙ ap holdingOf e)
+  pub not-held : p ≡ Nothing → isHeld key held ≡ false
+  not-held e = nothing-held key (held .keys) (there ∙ e)
 
 -- the id of a key
 pub id-is : (key id : List ℕ) → keyOf key ≡ given key → id ≡ orZeros 32 (contentIdOf key) → id ≡ keyId key

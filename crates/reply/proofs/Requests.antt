@@ -7,12 +7,12 @@ use mathlib.Core.List.{List, [], _∷_}
 use lib.Dec.{eqb, leb}
 use lib.ListN.{length, getD}
 use borrow.Author.Tests.{eq-eqb, ne-eqb, lt-ltb, le-ltb}
-use Rattle.refusal.specs.Outcome.{given, refused, mapOutcome}
+use Rattle.refusal.specs.Outcome.{Outcome, given, refusal, refused, mapOutcome}
 use Rattle.refusal.proofs.Outcomes.{given-not}
 use Rattle.octets.specs.Equal.{sameBytes}
 use Rattle.octets.proofs.Tests.{both}
 use Rattle.content_key.specs.Key.{selectorOf, keyOf}
-use Rattle.message.specs.Values.{Message, findContent}
+use Rattle.message.specs.Values.{Message, ping, pong, findNode, foundNodes, findContent, foundContent, offer, accept, store}
 use Rattle.message.specs.Rules.{rulesOf}
 use Rattle.message.specs.Decode.{decode}
 use Rattle.message.specs.Reading.{partAt, valuesOf, ReadTo}
@@ -27,23 +27,25 @@ use Rattle.routing_table.specs.Good.{good}
 use Rattle.routing_table.specs.Survey.{surveyOf}
 use Rattle.routing_table.specs.declared.Facts.{Facts}
 use Rattle.routing_table.proofs.Looked.{survey-good, survey-facts}
+use Rattle.replies.specs.Content.{contentReply}
 use Rattle.replies.specs.Reply.{requestOf, Lent, replyToRequest, agree, replyOf}
+use Rattle.reply.specs.Listing.{listing}
 
 -- whether index and table agree, by what the code asks
-module _ (held : keys.View) (v : View) (i : Bool) (ins : i ≡ rules.good 240 held) where
-  pub agree-index : i ≡ false → (r : Bool) → r ≡ false → r ≡ agree 240 held v
+module _ (limit : ℕ) (held : keys.View) (v : View) (i : Bool) (ins : i ≡ rules.good limit held) where
+  pub agree-index : i ≡ false → (r : Bool) → r ≡ false → r ≡ agree limit held v
   agree-index e r q = q ∙ sym (ap (λ (t : Bool). t && good v && sameBytes (v .own) (held .node)) (sym ins ∙ e))
 
   module _ (e : i ≡ true) (s : Facts) (is : s ≡ surveyOf v (held .node)) where
-    known : agree 240 held v ≡ (s .good && sameBytes (v .own) (held .node))
+    known : agree limit held v ≡ (s .good && sameBytes (v .own) (held .node))
     known =
         ap (λ (t : Bool). t && good v && sameBytes (v .own) (held .node)) (sym ins ∙ e)
         ∙ ap (λ (t : Bool). t && sameBytes (v .own) (held .node)) (sym (survey-good v (held .node) s is))
 
-    pub agree-table : s .good ≡ false → (r : Bool) → r ≡ false → r ≡ agree 240 held v
+    pub agree-table : s .good ≡ false → (r : Bool) → r ≡ false → r ≡ agree limit held v
     agree-table g r q = q ∙ sym (known ∙ ap (λ (t : Bool). t && sameBytes (v .own) (held .node)) g)
 
-    pub agree-own : s .good ≡ true → (r : Bool) → r ≡ s .own → r ≡ agree 240 held v
+    pub agree-own : s .good ≡ true → (r : Bool) → r ≡ s .own → r ≡ agree limit held v
     agree-own g r q =
         q ∙ ap (λ (f : Facts). f .own) (survey-facts v (held .node) s is g)
         ∙ sym (known ∙ ap (λ (t : Bool). t && sameBytes (v .own) (held .node)) g)
@@ -78,32 +80,47 @@ true-request [] some short e = absurd (omega arith)
 true-request (x ∷ m) some short e = rw (le-ltb 1280 (length (x ∷ m)) short, e)
 
 -- what a reply comes to, test by test
-module _ (held : keys.View) (v : View) (lent : Lent) (message : List ℕ) (a : Bool) (is : a ≡ agree 240 held v) where
-  pub reply-apart : a ≡ false → replyOf 240 held v lent message ≡ refused 0
+module _ (limit : ℕ) (held : keys.View) (v : View) (lent : Lent) (message : List ℕ) (a : Bool) (is : a ≡ agree limit held v) where
+  pub reply-apart : a ≡ false → replyOf limit held v lent message ≡ refused 0
   unfolding replyOf
   reply-apart e = ap (λ (t : Bool). cond t (replyToRequest held v lent (requestOf message)) (refused 0)) (sym is ∙ e)
 
   module _ (e : a ≡ true) where
-    asks : replyOf 240 held v lent message ≡ replyToRequest held v lent (requestOf message)
+    asks : replyOf limit held v lent message ≡ replyToRequest held v lent (requestOf message)
     unfolding replyOf
     asks = ap (λ (t : Bool). cond t (replyToRequest held v lent (requestOf message)) (refused 0)) (sym is ∙ e)
 
-    pub reply-empty : length message ≡ 0 → replyOf 240 held v lent message ≡ refused 1
+    pub reply-empty : length message ≡ 0 → replyOf limit held v lent message ≡ refused 1
     reply-empty h = asks ∙ ap (replyToRequest held v lent) (empty-request message h)
 
-    pub reply-long : 1280 < length message → replyOf 240 held v lent message ≡ refused 2
+    pub reply-long : 1280 < length message → replyOf limit held v lent message ≡ refused 2
     reply-long h = asks ∙ ap (replyToRequest held v lent) (long-request message h)
 
     module _ (some : 1 ≤ length message) (short : length message ≤ 1280) (t : Bool) (ts : t ≡ (eqb (getD message 0 0) 3 || eqb (getD message 0 0) 5)) where
-      pub reply-other : t ≡ false → replyOf 240 held v lent message ≡ refused 3
+      pub reply-other : t ≡ false → replyOf limit held v lent message ≡ refused 3
       reply-other q = asks ∙ ap (replyToRequest held v lent) (other-request message some short (sym ts ∙ q))
 
-      pub reply-asked : t ≡ true → replyOf 240 held v lent message ≡ replyToRequest held v lent (decode message)
+      pub reply-asked : t ≡ true → replyOf limit held v lent message ≡ replyToRequest held v lent (decode message)
       reply-asked q = asks ∙ ap (replyToRequest held v lent) (true-request message some short (sym ts ∙ q))
 
--- index and table agree: each by itself
-pub agree-both : (held : keys.View) (v : View) → agree 240 held v ≡ true → (rules.good 240 held ≡ true) × (good v ≡ true)
-agree-both held v e = both (rules.good 240 held) (good v) (both (rules.good 240 held && good v) (sameBytes (v .own) (held .node)) e .0)
+-- where index and table agree, the table is good
+pub table-good : (limit : ℕ) (held : keys.View) (v : View) → agree limit held v ≡ true → good v ≡ true
+table-good limit held v e = both (rules.good limit held) (good v) (both (rules.good limit held && good v) (sameBytes (v .own) (held .node)) e .0) .1
+
+-- a reply looks at no more of an index than its keys
+pub listing-alone : (node cap bytes : List ℕ) (count : ℕ) (v : View) (lent : Lent) (o : Outcome Message)
+    → replyToRequest (keys.viewOf node cap bytes count) v lent o ≡ replyToRequest (listing bytes count) v lent o
+unfolding contentReply
+listing-alone node cap bytes count v lent (given (findNode distances)) = refl
+listing-alone node cap bytes count v lent (given (findContent key)) = refl
+listing-alone node cap bytes count v lent (given (ping radius)) = refl
+listing-alone node cap bytes count v lent (given (pong radius)) = refl
+listing-alone node cap bytes count v lent (given (foundNodes total records)) = refl
+listing-alone node cap bytes count v lent (given (foundContent connection records content)) = refl
+listing-alone node cap bytes count v lent (given (offer key)) = refl
+listing-alone node cap bytes count v lent (given (accept key)) = refl
+listing-alone node cap bytes count v lent (given (store connection content)) = refl
+listing-alone node cap bytes count v lent (refusal says) = refl
 
 -- what a message that was read draws, by its kind
 pub answered-as : (held : keys.View) (v : View) (lent : Lent) (s : List ℕ) (r : Reading) → ReadTo (decode s) s r → (k : Kind) → r .kind ≡ k

@@ -6,21 +6,19 @@ ghost use lib.ListN.{length};
 ghost use Rattle.refusal.specs.Outcome.{given};
 ghost use Rattle.content_key.specs.Key.{keyOf, keyId};
 ghost use Rattle.message.specs.Values.{foundContent};
-ghost use Rattle.key_index.specs.View as keys;
-ghost use Rattle.key_index.specs.Good as rules;
 ghost use Rattle.routing_table.specs.View.{view};
 ghost use Rattle.routing_table.specs.Good.{good};
 ghost use Rattle.replies.specs.Content.{heldReply, nearerReply, contentReply};
 ghost use Rattle.replies.specs.Reply.{inRoom};
 ghost use Rattle.reply.specs.Answer.{Replies};
+ghost use Rattle.reply.specs.Listing.{listing};
 ghost use Rattle.reply.specs.Ready.{Single, oneOf};
 use crate::MESSAGES;
 use crate::Replied;
 use crate::ReplyAnswer;
 use crate::groups;
 use crate::refused;
-use key_index::Holding;
-use key_index::KeyIndex;
+use key_index::Place;
 use refusal::Refusal;
 use refusal::Wrote;
 use routing_table::RoutingTable;
@@ -30,21 +28,22 @@ const CONTENT: usize = 1267;
 
 // The content or the connection id of a key that is held, or the records of nearer entries.
 pub(crate) fn found(
-    index: KeyIndex,
+    listed: &[u8],
+    count: usize,
     table: RoutingTable,
     content: &[u8],
     connection: [u8; 4],
     key: &[u8],
     out: &mut [u8],
 ) -> ReplyAnswer
-    requires { ⌜ (rules.good 240 (keys.view index) ≡ true) × (good (view table) ≡ true) × (keyOf (now key) ≡ given (now key)) ⌝ }
-    ensures { λ r. ⌜ Replies (inRoom (length (now (out .entry))) (contentReply (keys.view index) (view table) (now (content .entry)) connection (now (key .entry)))) r (now (out .entry)) (now (out .exit)) ⌝ }
+    requires { ⌜ (good (view table) ≡ true) × (keyOf (now key) ≡ given (now key)) ⌝ }
+    ensures { λ r. ⌜ Replies (inRoom (length (now (out .entry))) (contentReply (listing (now (listed .entry)) count) (view table) (now (content .entry)) connection (now (key .entry)))) r (now (out .entry)) (now (out .exit)) ⌝ }
 {
-    let holding = key_index::holds(index, key);
-    match holding {
-        Holding::Refused(why) => refused(why),
-        Holding::Yes => held(content, connection, out),
-        Holding::No => nearer(table, key, out),
+    let nine = octets::part9(key, 0);
+    let place = key_index::find(listed, count, nine);
+    match place {
+        Place::At(_) => held(content, connection, out),
+        Place::Nothing => nearer(table, key, out),
     }
 }
 

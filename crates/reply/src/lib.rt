@@ -6,8 +6,10 @@ ghost use lib.ListN.{length};
 ghost use Rattle.message.specs.Decode.{decode};
 ghost use Rattle.key_index.specs.View as keys;
 ghost use Rattle.routing_table.specs.View.{view};
+ghost use Rattle.routing_table.specs.Good.{good};
 ghost use Rattle.replies.specs.Reply.{agree, replyOf, replyToRequest, inRoom};
 ghost use Rattle.reply.specs.Answer.{Replies, refusedOf};
+ghost use Rattle.reply.specs.Listing.{listing};
 use key_index::KeyIndex;
 use message::Kind;
 use refusal::Refusal;
@@ -43,9 +45,9 @@ pub fn reply(
     message: &[u8],
     out: &mut [u8],
 ) -> ReplyAnswer
-    ensures { λ r. ⌜ Replies (inRoom (length (now (out .entry))) (replyOf 240 (keys.view index) (view table) (record { own = now (own .entry); content = now (content .entry); connection = connection }) (now (message .entry)))) r (now (out .entry)) (now (out .exit)) ⌝ }
+    ensures { λ r. ⌜ Replies (inRoom (length (now (out .entry))) (replyOf keys.keyLimit (keys.view index) (view table) (record { own = now (own .entry); content = now (content .entry); connection = connection }) (now (message .entry)))) r (now (out .entry)) (now (out .exit)) ⌝ }
 {
-    if !agreeing(index, table) {
+    if !agreeing(index.node, index.cap, &index.keys, index.count, table) {
         return refused(Refusal::BadState);
     }
     if message.len() == 0 {
@@ -57,17 +59,25 @@ pub fn reply(
     if !is_request(message[0]) {
         return refused(Refusal::MessageType);
     }
-    answered(index, table, own, content, connection, message, out)
+    answered(
+        &index.keys,
+        index.count,
+        table,
+        own,
+        content,
+        connection,
+        message,
+        out,
+    )
 }
 
-// Whether index and table keep their rules and are of one node.
-fn agreeing(index: KeyIndex, table: RoutingTable) -> bool
-    ensures { λ r. ⌜ r ≡ agree 240 (keys.view index) (view table) ⌝ }
+// Whether an index with these parts and a table keep their rules and are of one node.
+fn agreeing(node: [u8; 32], cap: [u8; 32], listed: &[u8], count: usize, table: RoutingTable) -> bool
+    ensures { λ r. ⌜ r ≡ agree keys.keyLimit (keys.viewOf node cap (now (listed .entry)) count) (view table) ⌝ }
 {
-    if !key_index::is_good(index) {
+    if !key_index::is_good(node, cap, listed, count) {
         return false;
     }
-    let node = index.node;
     let told = routing_table::survey(table, node);
     if !told.good {
         return false;
@@ -85,9 +95,10 @@ fn is_request(kind: u8) -> bool
     kind == 5
 }
 
-// The reply to any message, where index and table agree.
+// The reply to any message, from the keys of an index and a table that keeps its rules.
 fn answered(
-    index: KeyIndex,
+    listed: &[u8],
+    count: usize,
     table: RoutingTable,
     own: &[u8],
     content: &[u8],
@@ -95,8 +106,8 @@ fn answered(
     message: &[u8],
     out: &mut [u8],
 ) -> ReplyAnswer
-    requires { ⌜ agree 240 (keys.view index) (view table) ≡ true ⌝ }
-    ensures { λ r. ⌜ Replies (inRoom (length (now (out .entry))) (replyToRequest (keys.view index) (view table) (record { own = now (own .entry); content = now (content .entry); connection = connection }) (decode (now (message .entry))))) r (now (out .entry)) (now (out .exit)) ⌝ }
+    requires { ⌜ good (view table) ≡ true ⌝ }
+    ensures { λ r. ⌜ Replies (inRoom (length (now (out .entry))) (replyToRequest (listing (now (listed .entry)) count) (view table) (record { own = now (own .entry); content = now (content .entry); connection = connection }) (decode (now (message .entry))))) r (now (out .entry)) (now (out .exit)) ⌝ }
 {
     let read = message_read::read(message);
     let kind = read.kind;
@@ -104,9 +115,15 @@ fn answered(
     let end = start + read.len;
     match kind {
         Kind::FindNode => nodes::nodes(table, own, &message[start..end], out),
-        Kind::FindContent => {
-            content::found(index, table, content, connection, &message[start..end], out)
-        }
+        Kind::FindContent => content::found(
+            listed,
+            count,
+            table,
+            content,
+            connection,
+            &message[start..end],
+            out,
+        ),
         Kind::Refused(why) => refused(why),
         Kind::Ping => refused(Refusal::MessageType),
         Kind::Pong => refused(Refusal::MessageType),

@@ -29,7 +29,7 @@ fn key(selector: u8, low: u8) -> [u8; 9] {
 
 // An index of the tables' own id: two keys in front, and one byte in all other places.
 fn index(cap: [u8; 32], fill: u8, count: usize, first: [u8; 9], second: [u8; 9]) -> KeyIndex {
-    let mut keys = [fill; 2160];
+    let mut keys = [fill; key_index::LIMIT * key_index::WIDTH];
     octets::put(&first, &mut keys, 0);
     octets::put(&second, &mut keys, 9);
     KeyIndex {
@@ -84,7 +84,7 @@ fn show_broken_indexes() {
         index(reach(1), 0, 1, near, far),
         some,
     );
-    show(b"241 keys", index(ones, 0, 241, near, far), some);
+    show(b"3001 keys", index(ones, 0, 3001, near, far), some);
     show(
         b"the largest count",
         index(ones, 0, usize::MAX, near, far),
@@ -99,8 +99,8 @@ fn show_broken_indexes() {
     show(b"farthest first", index(ones, 0, 2, far, near), some);
     show(b"equal keys", index(ones, 0, 2, near, near), some);
     show(
-        b"240 keys, most of them equal",
-        index(ones, 0, 240, near, far),
+        b"3000 keys, most of them equal",
+        index(ones, 0, 3000, near, far),
         some,
     );
 }
@@ -235,8 +235,8 @@ fn show_both() {
     let ones = [255u8; 32];
     let some = edge_tables::some();
     show(
-        b"241 keys and 4 failures",
-        index(ones, 0, 241, key(0, 90), key(0, 91)),
+        b"3001 keys and 4 failures",
+        index(ones, 0, 3001, key(0, 90), key(0, 91)),
         edge_tables::entry(some, 4, 1, 4),
     );
     show(

@@ -1,18 +1,18 @@
--- What the reading of one line answers: the line's form and its frame (`read_frame`), the first line (`header_in`), a key's line (`key_line`).
+-- What the reading of one line answers: the line's form and its frame (`read_frame`), the first line (`header_as`, `header_in`), a key's line (`key_line`).
 -- Each goes by whether the text starts with a frame's line. Assumes nothing.
 use Prim.Native.Nat.{ℕ, _+_, _-_, _*_, _≤_}
 use native.Mathlib.Omega.{arith}
-use mathlib.Core.Path.{_≡_, refl, sym, ap, ap₂, _∙_}
+use mathlib.Core.Path.{_≡_, refl, sym, ap, ap₂, subst, _∙_}
 use mathlib.Core.Bool.{Bool, true, false, cond, _&&_, and-eq-true-iff, and-assoc, and-false}
 use mathlib.Core.List.{List, _++_, append-nil}
 use mathlib.Core.Option.{Option, some, none}
 use lib.Dec.{eqb, leb}
 use lib.ListN.{length, getD, take, drop, replicate, length-drop, drop-of-length-le, List·getD-eq-default}
-use lib.Seq.{length-take-le, getD-drop}
+use lib.Seq.{length-take-le, getD-drop, take-all}
 use borrow.Author.Tests.{le-leb, eq-eqb, ne-eqb}
-use Rattle.octets.specs.Bytes.{be}
+use Rattle.octets.specs.Bytes.{be, le}
 use Rattle.octets.specs.Parts.{bytesAt}
-use Rattle.octets.proofs.Parts.{bytes-at-part, bytes-at-rest}
+use Rattle.octets.proofs.Parts.{bytes-at-part, bytes-at-rest, le-part}
 use Rattle.hex.specs.Digits.{bytesOf, allDigits}
 use Rattle.hex.specs.Buffer.{decodedTo, decodedOf, filled, filledOf}
 use Rattle.hex.specs.declared.Decoded.{Decoded}
@@ -21,8 +21,10 @@ use Rattle.hex.proofs.Texts.{bytes-of-pairs, length-of-bytes, digits-of-bytes}
 use Rattle.distance.specs.Distance.{xorOf}
 use Rattle.content_key.specs.Key.{selectorOf, keyId}
 use Rattle.key_index.specs.Good.{awayFrom}
-use Rattle.snapshot.specs.Load.{isFrame, frameOf, keyIn, isKeyLine, countIn, isHeader}
+use Rattle.snapshot.specs.Text.{Kind, kind01, kind11, headSize}
+use Rattle.snapshot.specs.Load.{isFrame, frameOf, keyIn, isKeyLine, countIn, isHeader, kindIn}
 use Rattle.snapshot.specs.Parts.{readInto, lowest, keyPasses, ReadsHeader, ReadsKey}
+use Rattle.snapshot.specs.declared.loading.Header.{Header}
 use Rattle.snapshot.proofs.Frames.{frame-is}
 
 module _ (text frame : List ℕ) where
@@ -149,34 +151,61 @@ passed-framed : (a b c : Bool) → (a && b && c) ≡ true → a ≡ true
 passed-framed true b c e = refl
 passed-framed false b c e = e
 
--- the first line
-module _ (text : List ℕ) (framed : Bool) (frame : List ℕ) (count : ℕ) (good : Bool)
-    (f : framed ≡ isFrame 66 text) (r : frame ≡ readInto text (replicate 66 0)) (w : count ≡ getD frame 65 0)
-    (g : good ≡ (framed && eqb (getD frame 0 0) 1 && leb count 240)) where
-  header-frame : good ≡ true → frame ≡ frameOf 66 text
-  header-frame e =
-      read-is text frame (replicate 66 0) r (sym f ∙ passed-framed framed (eqb (getD frame 0 0) 1) (leb count 240) (sym g ∙ e))
+-- the number at the end of a first frame, which has at most four bytes
+pub count-of : (frame four : List ℕ) (count : ℕ) → length frame ≤ 69 → four ≡ bytesAt 4 65 frame → count ≡ le four → count ≡ le (drop 65 frame)
+count-of frame four count h f c =
+    c ∙ ap le f ∙ le-part 4 65 frame ∙ ap le (take-all 4 (drop 65 frame) (omega (arith, length-drop 65 frame)))
 
-  header-tested : good ≡ isHeader 240 text
+-- the first line of a kind
+module _ (kind : Kind) (text d : List ℕ) (size : length d ≡ headSize kind) (framed : Bool) (frame : List ℕ) (count : ℕ) (good : Bool)
+    (f : framed ≡ isFrame (length d) text) (r : frame ≡ readInto text d) (w : count ≡ le (drop 65 frame))
+    (g : good ≡ (framed && eqb (getD frame 0 0) (kind .mark) && leb count (kind .limit))) where
+  sized : isFrame (length d) text ≡ isFrame (headSize kind) text
+  sized = ap (λ (n : ℕ). isFrame n text) size
+
+  frame-of : isFrame (headSize kind) text ≡ true → frame ≡ frameOf (headSize kind) text
+  frame-of e = read-is text frame d r (sized ∙ e) ∙ ap (λ (n : ℕ). frameOf n text) size
+
+  header-frame : good ≡ true → frame ≡ frameOf (headSize kind) text
+  header-frame e =
+      frame-of (sym sized ∙ sym f ∙ passed-framed framed (eqb (getD frame 0 0) (kind .mark)) (leb count (kind .limit)) (sym g ∙ e))
+
+  header-tested : good ≡ isHeader kind text
   unfolding isHeader
   header-tested =
-      g ∙ ap₂ (λ (b : Bool) (n : ℕ). b && eqb (getD frame 0 0) 1 && leb n 240) f w ∙ go (isFrame 66 text) refl
+      g
+      ∙ ap₂ (λ (b : Bool) (n : ℕ). b && eqb (getD frame 0 0) (kind .mark) && leb n (kind .limit)) (f ∙ sized) w
+      ∙ go (isFrame (headSize kind) text) refl
     where
-      go : (b : Bool) → isFrame 66 text ≡ b
-          → (b && eqb (getD frame 0 0) 1 && leb (getD frame 65 0) 240) ≡ (b && eqb (getD (frameOf 66 text) 0 0) 1 && leb (countIn text) 240)
-      go true q =
-          ap (λ (l : List ℕ). eqb (getD l 0 0) 1 && leb (getD l 65 0) 240) (read-is text frame (replicate 66 0) r q)
+      go : (b : Bool) → isFrame (headSize kind) text ≡ b
+          → (b && eqb (getD frame 0 0) (kind .mark) && leb (le (drop 65 frame)) (kind .limit))
+          ≡ (b && eqb (getD (frameOf (headSize kind) text) 0 0) (kind .mark) && leb (countIn kind text) (kind .limit))
+      go true q = ap (λ (l : List ℕ). eqb (getD l 0 0) (kind .mark) && leb (le (drop 65 l)) (kind .limit)) (frame-of q)
       go false q = refl
 
-  pub header-read : length frame ≡ 66 → (node cap : List ℕ) → node ≡ bytesAt 32 1 frame → cap ≡ bytesAt 32 33 frame
-      → ReadsHeader text (record { good = good; node = node; cap = cap; count = count })
-  header-read l node cap n c =
+  pub header-read : length frame ≡ headSize kind → (node cap : List ℕ) → node ≡ bytesAt 32 1 frame → cap ≡ bytesAt 32 33 frame
+      → (all : ℕ) → all ≡ 2 * headSize kind + 1
+      → ReadsHeader kind text (record { good = good; node = node; cap = cap; count = count; size = all })
+  header-read l node cap n c all a =
       record {
         tested = header-tested;
         node-is = λ e. n ∙ bytes-at-part 32 1 frame (omega arith) ∙ ap (λ (l : List ℕ). take 32 (drop 1 l)) (header-frame e);
         cap-is = λ e. c ∙ bytes-at-part 32 33 frame (omega arith) ∙ ap (λ (l : List ℕ). take 32 (drop 33 l)) (header-frame e);
-        count-is = λ e. w ∙ ap (λ (l : List ℕ). getD l 65 0) (header-frame e);
+        count-is = λ e. w ∙ ap (λ (l : List ℕ). le (drop 65 l)) (header-frame e);
+        size-is = a;
       }
+
+-- the first line of a text: of kind 11 where it starts with one, else of kind 01
+pub header-11 : (text : List ℕ) (h : Header) → ReadsHeader kind11 text h → h .good ≡ true → ReadsHeader (kindIn text) text h
+unfolding kindIn
+header-11 text h r e =
+    subst (λ (k : Kind). ReadsHeader k text h) (sym (ap (λ (b : Bool). cond b kind11 kind01) (sym (r .tested) ∙ e))) r
+
+pub header-01 : (text : List ℕ) (first h : Header) → ReadsHeader kind11 text first → first .good ≡ false → ReadsHeader kind01 text h
+    → ReadsHeader (kindIn text) text h
+unfolding kindIn
+header-01 text first h f e r =
+    subst (λ (k : Kind). ReadsHeader k text h) (sym (ap (λ (b : Bool). cond b kind11 kind01) (sym (f .tested) ∙ e))) r
 
 -- a key's line
 module _ (node cap : List ℕ) (first : Bool) (last text : List ℕ) (framed : Bool) (frame key far : List ℕ) (keeps good : Bool)

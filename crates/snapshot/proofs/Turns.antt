@@ -13,19 +13,18 @@ use Rattle.octets.specs.Bytes.{be}
 use Rattle.octets.specs.Buffer.{placed}
 use Rattle.octets.proofs.Buffers.{placed-room}
 use borrow.Author.Tests.{eq-eqb, ne-eqb}
-use Rattle.refusal.specs.declared.Checked.the-variants.{Refused}
 use Rattle.refusal.specs.Says.{only, atLine}
-use Rattle.refusal.specs.declared.Refusal.the-variants.{BadSnapshot}
 use Rattle.key_index.specs.declared.KeyIndex.{KeyIndex}
-use Rattle.key_index.specs.View.{View, view, chunks, freshOf, withKeys}
+use Rattle.key_index.specs.View.{keyLimit, viewOf, view, chunks, freshOf, withKeys}
 use Rattle.key_index.specs.Good.{awayFrom, good}
 use Rattle.key_index.proofs.Chunks.{chunks-more, chunks-only}
-use Rattle.snapshot.specs.Load.{Loading, badLine, loaded, afterFrame, keyIn, isKeyLine, before, ending, keysOf, nodeIn, capIn, countIn, loadOf}
-use Rattle.snapshot.specs.Parts.{lowest, ReadsHeader, ReadsKey}
-use Rattle.snapshot.specs.Calls.{now, back, reloadedBy, reloadFor, meaningOf}
-use Rattle.snapshot.specs.declared.ReloadAnswer.{ReloadAnswer}
+use Rattle.snapshot.specs.Text.{Kind, kind01, kind11, headSize}
+use Rattle.snapshot.specs.Load.{Loading, badLine, loaded, afterFrame, keyIn, isKeyLine, before, ending, keysOf, nodeIn, capIn, countIn, isHeader, readAs, kindIn, loadOf}
+use Rattle.snapshot.specs.Parts.{lowest, ReadsHeader, ReadsKey, LoadsTo}
+use Rattle.snapshot.specs.Calls.{now, back, reloadedBy, reloadFor}
 use Rattle.snapshot.specs.declared.loading.Header.{Header}
 use Rattle.snapshot.specs.declared.loading.KeyLine.{KeyLine}
+use Rattle.snapshot.specs.declared.loading.Loaded.{Loaded}
 use Rattle.snapshot.proofs.Frames.{framed}
 use Rattle.snapshot.proofs.KeyLines.{key-facts, key-nine}
 use Rattle.snapshot.proofs.RoundTrip.{header-facts}
@@ -43,43 +42,61 @@ onto-more : (ks : List (List ℕ)) (k : List ℕ) (l : Loading) → onto (ks ++ 
 onto-more ks k (badLine line) = refl
 onto-more ks k (loaded v) = ap (λ (js : List (List ℕ)). loaded (withKeys v js)) (append-snoc ks k (v .keys))
 
--- what the text gives from place i on, after a key at the distance `last`
-abbrev restOf : List ℕ → List ℕ → List ℕ → ℕ → List ℕ → ℕ → Loading
-restOf text node cap count last i = keysOf node cap (i + 2) (lowest (eqb i 0) last) (count - i) (drop (133 + 21 * i) text)
+-- what the text gives from place i on, after a first line of so many bytes and a key at the distance `last`
+abbrev restOf : List ℕ → ℕ → List ℕ → List ℕ → ℕ → List ℕ → ℕ → Loading
+restOf text first node cap count last i = keysOf node cap (i + 2) (lowest (eqb i 0) last) (count - i) (drop (first + 21 * i) text)
 
-pub record Through (text node cap : List ℕ) (count : ℕ) (keys last : List ℕ) (i : ℕ) : Type 0 where
+pub record Through (text : List ℕ) (first : ℕ) (node cap : List ℕ) (count : ℕ) (keys last : List ℕ) (i : ℕ) : Type 0 where
   pub inside : i ≤ count
-  pub few : count ≤ 240
-  pub fits : 133 + 21 * i ≤ length text
-  pub size : length keys ≡ 2160
-  pub same : loadOf 240 text ≡ onto (chunks i keys) (restOf text node cap count last i)
+  pub few : count ≤ keyLimit
+  pub head : first ≤ 135
+  pub fits : first + 21 * i ≤ length text
+  pub size : length keys ≡ 9 * keyLimit
+  pub same : loadOf text ≡ onto (chunks i keys) (restOf text first node cap count last i)
+
+-- no kind lists more keys than an index, or has a longer first line than kind 11
+kind-sizes : (text : List ℕ) → (kindIn text .limit ≤ keyLimit) × (2 * headSize (kindIn text) + 1 ≤ 135)
+unfolding kindIn
+kind-sizes text = go (isHeader kind11 text)
+  where
+    go : (b : Bool) → (cond b kind11 kind01 .limit ≤ keyLimit) × (2 * headSize (cond b kind11 kind01) + 1 ≤ 135)
+    go true = (omega arith, omega arith)
+    go false = (omega arith, omega arith)
+
+-- the keys behind a first line
+abbrev keysIn : Kind → List ℕ → Loading
+keysIn kind text = keysOf (nodeIn kind text) (capIn kind text) 2 0 (countIn kind text) (afterFrame (headSize kind) text)
 
 -- the first line is bad
-pub first-bad : (text : List ℕ) (h : Header) → ReadsHeader text h → h .good ≡ false → loadOf 240 text ≡ badLine 1
-unfolding loadOf
-first-bad text h r e =
-    ap (λ (t : Bool). cond t (keysOf (nodeIn text) (capIn text) 2 0 (countIn text) (afterFrame 66 text)) (badLine 1)) (sym (r .tested) ∙ e)
+pub first-bad : (text : List ℕ) (h : Header) → ReadsHeader (kindIn text) text h → h .good ≡ false → loadOf text ≡ badLine 1
+unfolding readAs
+first-bad text h r e = ap (λ (t : Bool). cond t (keysIn (kindIn text) text) (badLine 1)) (sym (r .tested) ∙ e)
 
 -- it is good
-pub first-good : (text : List ℕ) (h : Header) → ReadsHeader text h → h .good ≡ true → (keys last : List ℕ) → length keys ≡ 2160
-    → Through text (h .node) (h .cap) (h .count) keys last 0
-unfolding loadOf chunks
+pub first-good : (text : List ℕ) (h : Header) → ReadsHeader (kindIn text) text h → h .good ≡ true → (keys last : List ℕ)
+    → length keys ≡ 9 * keyLimit → Through text (h .size) (h .node) (h .cap) (h .count) keys last 0
+unfolding readAs chunks
 first-good text h r e keys last size =
+    let kind = kindIn text in
     let good = sym (r .tested) ∙ e in
-    let facts = header-facts 240 text good in
+    let facts = header-facts kind text good in
     let few = facts .few in
+    let sizes = kind-sizes text in
     let is = r .count-is e in
+    let first = r .size-is in
     let all : h .count ≡ h .count - 0 = omega arith in
-    let inside = framed 66 text (facts .frame) .inside in
+    let inside = framed (headSize kind) text (facts .frame) .inside in
+    let start : 2 * headSize kind + 1 ≡ h .size + 21 * 0 = omega arith in
     record {
       inside = omega arith;
-      few = omega arith;
+      few = omega (arith, sizes .0);
+      head = omega (arith, sizes .1);
       fits = omega arith;
       size = size;
-      same = ap (λ (t : Bool). cond t (keysOf (nodeIn text) (capIn text) 2 0 (countIn text) (afterFrame 66 text)) (badLine 1)) good
-          ∙ ap₂ (λ (n c : List ℕ). keysOf n c 2 0 (countIn text) (afterFrame 66 text)) (sym (r .node-is e)) (sym (r .cap-is e))
-          ∙ ap (λ (k : ℕ). keysOf (h .node) (h .cap) 2 0 k (afterFrame 66 text)) (sym is ∙ all)
-          ∙ sym (onto-none (restOf text (h .node) (h .cap) (h .count) last 0));
+      same = ap (λ (t : Bool). cond t (keysIn kind text) (badLine 1)) good
+          ∙ ap₂ (λ (n c : List ℕ). keysOf n c 2 0 (countIn kind text) (afterFrame (headSize kind) text)) (sym (r .node-is e)) (sym (r .cap-is e))
+          ∙ ap₂ (λ (k m : ℕ). keysOf (h .node) (h .cap) 2 0 k (drop m text)) (sym is ∙ all) start
+          ∙ sym (onto-none (restOf text (h .size) (h .node) (h .cap) (h .count) last 0));
     }
 
 -- a key put at place i comes after those before it
@@ -101,29 +118,30 @@ put-more keys key i n h =
     ∙ ap (take 9) (drop-at (take (9 * i) keys) (key ++ drop (9 * i + 9) keys) (9 * i) front)
     ∙ take-at key (drop (9 * i + 9) keys) 9 n)
 
-module _ (text node cap : List ℕ) (count : ℕ) (keys last : List ℕ) (i : ℕ) (t : Through text node cap count keys last i) where
+module _ (text : List ℕ) (first : ℕ) (node cap : List ℕ) (count : ℕ) (keys last : List ℕ) (i : ℕ)
+    (t : Through text first node cap count keys last i) where
   -- after the last line the text ends
-  pub all-read : count ≤ i → length text ≡ 133 + 21 * count
-      → loadOf 240 text ≡ loaded (record { node = node; cap = cap; keys = chunks count keys })
+  pub all-read : count ≤ i → length text ≡ first + 21 * count
+      → loadOf text ≡ loaded (record { node = node; cap = cap; keys = chunks count keys })
   unfolding keysOf
   all-read h e =
       let none : count - i ≡ 0 = omega arith in
       let last-one : i ≡ count = let l = t .inside in omega arith in
       t .same
       ∙ ap₂ (λ (n : ℕ) (rest : List ℕ). onto (chunks i keys) (keysOf node cap (i + 2) (lowest (eqb i 0) last) n rest)) none
-      (drop-of-length-le text {i = 133 + 21 * i} (omega arith))
+      (drop-of-length-le text {i = first + 21 * i} (omega arith))
       ∙ ap (λ (ks : List (List ℕ)). loaded (record { node = node; cap = cap; keys = ks }))
       (append-nil (chunks i keys) ∙ ap (λ (n : ℕ). chunks n keys) last-one)
 
   -- it goes on
-  pub too-long : count ≤ i → (length text ≡ 133 + 21 * count → ⊥) → loadOf 240 text ≡ badLine (count + 2)
+  pub too-long : count ≤ i → (length text ≡ first + 21 * count → ⊥) → loadOf text ≡ badLine (count + 2)
   unfolding keysOf
   too-long h n =
       let none : count - i ≡ 0 = omega arith in
       let last-one : i ≡ count = let l = t .inside in omega arith in
       t .same
-      ∙ ap (λ (n : ℕ). onto (chunks i keys) (keysOf node cap (i + 2) (lowest (eqb i 0) last) n (drop (133 + 21 * i) text))) none
-      ∙ go (drop (133 + 21 * i) text) (λ e. n (let f = t .fits in omega (arith, length-drop (133 + 21 * i) text, ap length e)))
+      ∙ ap (λ (n : ℕ). onto (chunks i keys) (keysOf node cap (i + 2) (lowest (eqb i 0) last) n (drop (first + 21 * i) text))) none
+      ∙ go (drop (first + 21 * i) text) (λ e. n (let f = t .fits in omega (arith, length-drop (first + 21 * i) text, ap length e)))
       ∙ ap (λ (n : ℕ). badLine (n + 2)) last-one
     where
       go : (rest : List ℕ) → (rest ≡ [] → ⊥) → onto (chunks i keys) (ending (freshOf node cap) (i + 2) rest) ≡ badLine (i + 2)
@@ -131,57 +149,57 @@ module _ (text node cap : List ℕ) (count : ℕ) (keys last : List ℕ) (i : �
       go (c ∷ rest) n = refl
 
   -- a line is read
-  module _ (h : i < count) (line : KeyLine) (first : Bool) (r : ReadsKey node cap first last (drop (133 + 21 * i) text) line)
-      (yes-first : first ≡ true → i ≡ 0) (no-first : first ≡ false → 0 < i) where
+  module _ (h : i < count) (line : KeyLine) (one : Bool) (r : ReadsKey node cap one last (drop (first + 21 * i) text) line)
+      (yes-first : one ≡ true → i ≡ 0) (no-first : one ≡ false → 0 < i) where
     -- it was read as the first one where it is
-    as-first : first ≡ eqb i 0
-    as-first = go first refl
+    as-first : one ≡ eqb i 0
+    as-first = go one refl
       where
-        go : (b : Bool) → first ≡ b → first ≡ eqb i 0
+        go : (b : Bool) → one ≡ b → one ≡ eqb i 0
         go true e = e ∙ sym (eq-eqb i 0 (yes-first e))
         go false e = e ∙ sym (ne-eqb i 0 (λ z. omega (arith, no-first e)))
 
-    tested : line .good ≡ isKeyLine node (be cap) (lowest (eqb i 0) last) (drop (133 + 21 * i) text)
-    tested = r .tested ∙ ap (λ (b : Bool). isKeyLine node (be cap) (lowest b last) (drop (133 + 21 * i) text)) as-first
+    tested : line .good ≡ isKeyLine node (be cap) (lowest (eqb i 0) last) (drop (first + 21 * i) text)
+    tested = r .tested ∙ ap (λ (b : Bool). isKeyLine node (be cap) (lowest b last) (drop (first + 21 * i) text)) as-first
 
     -- what its test leaves
-    split : restOf text node cap count last i
+    split : restOf text first node cap count last i
         ≡ cond (line .good)
-        (before (keyIn (drop (133 + 21 * i) text))
-        (keysOf node cap (suc (i + 2)) (suc (awayFrom node (keyIn (drop (133 + 21 * i) text)))) (count - suc i) (afterFrame 10 (drop (133 + 21 * i) text))))
+        (before (keyIn (drop (first + 21 * i) text))
+        (keysOf node cap (suc (i + 2)) (suc (awayFrom node (keyIn (drop (first + 21 * i) text)))) (count - suc i) (afterFrame 10 (drop (first + 21 * i) text))))
         (badLine (i + 2))
     unfolding keysOf
     split =
-        let rest = drop (133 + 21 * i) text in
+        let rest = drop (first + 21 * i) text in
         let more : count - i ≡ suc (count - suc i) = omega arith in
         ap (λ (n : ℕ). keysOf node cap (i + 2) (lowest (eqb i 0) last) n rest) more
         ∙ ap (λ (b : Bool). cond b (before (keyIn rest) (keysOf node cap (suc (i + 2)) (suc (awayFrom node (keyIn rest))) (count - suc i) (afterFrame 10 rest))) (badLine (i + 2)))
         (sym tested)
 
     -- it is bad
-    pub line-bad : line .good ≡ false → loadOf 240 text ≡ badLine (i + 2)
+    pub line-bad : line .good ≡ false → loadOf text ≡ badLine (i + 2)
     line-bad e =
-        let rest = drop (133 + 21 * i) text in
+        let rest = drop (first + 21 * i) text in
         t .same
         ∙ ap (onto (chunks i keys))
         (split
         ∙ ap (λ (b : Bool). cond b (before (keyIn rest) (keysOf node cap (suc (i + 2)) (suc (awayFrom node (keyIn rest))) (count - suc i) (afterFrame 10 rest))) (badLine (i + 2))) e)
 
     -- it is good, and its key is put at its place
-    pub line-good : line .good ≡ true → (next : List ℕ) → next ≡ placed keys (9 * i) (line .key) → length next ≡ 2160
-        → Through text node cap count next (line .far) (i + 1)
+    pub line-good : line .good ≡ true → (next : List ℕ) → next ≡ placed keys (9 * i) (line .key) → length next ≡ 9 * keyLimit
+        → Through text first node cap count next (line .far) (i + 1)
     line-good e next p long =
-        let rest = drop (133 + 21 * i) text in
+        let rest = drop (first + 21 * i) text in
         let facts = key-facts node (be cap) (lowest (eqb i 0) last) rest (sym tested ∙ e) in
         let inside = framed 10 rest (facts .frame) .inside in
         let n : length (line .key) ≡ 9 = ap length (r .key-is e) ∙ key-nine rest (facts .frame) .size in
         let few = t .few in
         let size = t .size in
-        let fits : 133 + 21 * (i + 1) ≤ length text = let f = t .fits in omega (arith, length-drop (133 + 21 * i) text) in
+        let fits : first + 21 * (i + 1) ≤ length text = let f = t .fits in omega (arith, length-drop (first + 21 * i) text) in
         let room : 9 * i + 9 ≤ length keys = omega arith in
-        let after : afterFrame 10 rest ≡ drop (133 + 21 * (i + 1)) text =
-        let sum : 133 + 21 * i + 21 ≡ 133 + 21 * (i + 1) = omega arith in
-        drop-drop 21 (133 + 21 * i) text ∙ ap (λ (k : ℕ). drop k text) sum in
+        let after : afterFrame 10 rest ≡ drop (first + 21 * (i + 1)) text =
+        let sum : first + 21 * i + 21 ≡ first + 21 * (i + 1) = omega arith in
+        drop-drop 21 (first + 21 * i) text ∙ ap (λ (k : ℕ). drop k text) sum in
         let low : suc (awayFrom node (keyIn rest)) ≡ lowest (eqb (i + 1) 0) (line .far) =
         ap (λ (d : List ℕ). suc (be d)) (sym (r .far-is e))
         ∙ sym (ap (λ (b : Bool). lowest b (line .far)) (ap (λ (k : ℕ). eqb k 0) (add-one i) ∙ eqb·suc-zero i)) in
@@ -190,6 +208,7 @@ module _ (text node cap : List ℕ) (count : ℕ) (keys last : List ℕ) (i : �
         record {
           inside = omega arith;
           few = few;
+          head = t .head;
           fits = fits;
           size = long;
           same = t .same
@@ -204,26 +223,27 @@ module _ (text node cap : List ℕ) (count : ℕ) (keys last : List ℕ) (i : �
               ∙ ap₂ (λ (a : ℕ) (b : List ℕ). keysOf node cap (i + 1 + 2) (lowest (eqb (i + 1) 0) (line .far)) a b) left after);
         }
 
--- an answer that refuses a line, with an index handed back
-pub refused-at : (index given : KeyIndex) (text : List ℕ) (said line : ℕ) (answer : ReloadAnswer)
-    → answer ≡ record { checked = Refused (BadSnapshot said); index = given } → given ≡ index → said ≡ line → loadOf 240 text ≡ badLine line
-    → meaningOf answer ≡ reloadedBy index (loadOf 240 text)
-refused-at index given text said line answer e g s l =
-    ap meaningOf e ∙ ap₂ (λ (n : ℕ) (i : KeyIndex). back (atLine 14 n) i) s g ∙ sym (ap (reloadedBy index) l)
+-- a text with a bad line, and one that gives a view
+pub loads-bad : (text keys : List ℕ) (answer : Loaded) (line : ℕ) → answer .bad ≡ line → 0 < line → loadOf text ≡ badLine line
+    → LoadsTo text keys answer
+loads-bad text keys answer line e h l = record { refuses = λ b. l ∙ ap badLine (sym e); gives = λ z. absurd (omega arith) }
 
--- an answer that accepts the text, with the keys and the count put into an index that was fresh
-pub accepted-as : (index : KeyIndex) (text node cap keys : List ℕ) (count : ℕ) (fresh : KeyIndex) → view fresh ≡ freshOf node cap
-    → loadOf 240 text ≡ loaded (record { node = node; cap = cap; keys = chunks count keys })
-    → now (record { node = fresh .node; cap = fresh .cap; keys = chunks count keys }) ≡ reloadedBy index (loadOf 240 text)
-accepted-as index text node cap keys count fresh f l =
-    ap₂ (λ (n c : List ℕ). now (record { node = n; cap = c; keys = chunks count keys }))
-    (ap (λ (v : View). v .node) f) (ap (λ (v : View). v .cap) f)
-    ∙ sym (ap (reloadedBy index) l)
+pub loads-all : (text keys : List ℕ) (answer : Loaded) → answer .bad ≡ 0
+    → loadOf text ≡ loaded (viewOf (answer .node) (answer .cap) keys (answer .count)) → LoadsTo text keys answer
+loads-all text keys answer e l = record { refuses = λ b. absurd (omega arith); gives = λ z. l }
 
 -- what `reload` answers for a bad index, and for a good one
 module _ (limit : ℕ) (index : KeyIndex) (text : List ℕ) where
   pub reload-bad : good limit (view index) ≡ false → back (only 0) index ≡ reloadFor limit index text
-  reload-bad g = sym (ap (λ (b : Bool). cond b (reloadedBy index (loadOf limit text)) (back (only 0) index)) g)
+  reload-bad g = sym (ap (λ (b : Bool). cond b (reloadedBy index (loadOf text)) (back (only 0) index)) g)
 
-  pub reload-good : good limit (view index) ≡ true → reloadedBy index (loadOf limit text) ≡ reloadFor limit index text
-  reload-good g = sym (ap (λ (b : Bool). cond b (reloadedBy index (loadOf limit text)) (back (only 0) index)) g)
+  module _ (g : good limit (view index) ≡ true) (keys : List ℕ) (answer : Loaded) (l : LoadsTo text keys answer) where
+    good-index : reloadedBy index (loadOf text) ≡ reloadFor limit index text
+    good-index = sym (ap (λ (b : Bool). cond b (reloadedBy index (loadOf text)) (back (only 0) index)) g)
+
+    pub reload-line : (line : ℕ) → line ≡ answer .bad → 0 < line → back (atLine 14 line) index ≡ reloadFor limit index text
+    reload-line line e h =
+        ap (λ (n : ℕ). back (atLine 14 n) index) e ∙ sym (ap (reloadedBy index) (l .refuses (omega arith))) ∙ good-index
+
+    pub reload-view : answer .bad ≡ 0 → now (viewOf (answer .node) (answer .cap) keys (answer .count)) ≡ reloadFor limit index text
+    reload-view e = sym (ap (reloadedBy index) (l .gives e)) ∙ good-index

@@ -1,6 +1,6 @@
 -- A text written piece by piece into a buffer. `Written` is what holds between two pieces: the buffer starts with the text so far, and its
 -- rest is as it was. The laws are one piece, one line feed, the lines, the turns of the loop of `save`, and what `save` answers. Assumes nothing.
-use Prim.Native.Nat.{ℕ, zero, suc, _+_, _*_, _≤_, _<_}
+use Prim.Native.Nat.{ℕ, zero, suc, _+_, _*_, _/_, _%_, _≤_, _<_}
 use native.Mathlib.Numerals.{add-one}
 use native.Mathlib.Omega.{arith}
 use mathlib.Core.Path.{_≡_, refl, sym, ap, ap₂, subst, subst₂, _∙_}
@@ -14,16 +14,18 @@ use Rattle.refusal.specs.Buffer.{Writes}
 use Rattle.refusal.specs.declared.Refusal.the-variants.{BadState, ShortBuffer}
 use Rattle.refusal.specs.declared.Wrote.the-variants.{Bytes, Refused}
 use Rattle.hex.specs.Digits.{textOf}
+use Rattle.octets.specs.Bytes.{leBytes}
 use Rattle.octets.specs.Buffer.{placed}
+use Rattle.octets.proofs.Numbers.{leBytes-length}
 use Rattle.octets.proofs.Buffers.{placed-room}
 use Rattle.hex.specs.Buffer.{encodedTo}
 use Rattle.hex.proofs.Texts.{length-text, text-append}
-use Rattle.key_index.specs.View.{View, chunks, keyAt}
+use Rattle.key_index.specs.View.{keyLimit, View, viewOf, chunks, keyAt}
 use Rattle.key_index.specs.Good.{good}
 use Rattle.key_index.specs.Keys.{Each}
 use Rattle.key_index.proofs.Chunks.{chunks-length, chunks-more, keyAt-in}
 use Rattle.key_index.proofs.Rules.{good-facts}
-use Rattle.snapshot.specs.Text.{lineOf, headFrame, keyLines, snapshotOf}
+use Rattle.snapshot.specs.Text.{kind11, lineOf, headFrame, keyLines, formOf, snapshotOf}
 use Rattle.snapshot.specs.Calls.{saveOf}
 use Rattle.snapshot.proofs.RoundTrip.{sized-length, head-size}
 
@@ -89,25 +91,31 @@ text-piece : {d a : List ℕ} {at : ℕ} {out : List ℕ} → Written d a at out
     → {after : List ℕ} → after ≡ encodedTo bytes out at → Written d (a ++ textOf bytes) (at + 2 * n) after
 text-piece w bytes n k h p = piece w (textOf bytes) (2 * n) (omega (arith, length-text bytes)) h p
 
-header-length : (node cap : List ℕ) (count : ℕ) → length node ≡ 32 → length cap ≡ 32 → length (lineOf (headFrame node cap count)) ≡ 133
+header-length : (node cap : List ℕ) (count : ℕ) → length node ≡ 32 → length cap ≡ 32 → length (lineOf (headFrame kind11 node cap count)) ≡ 135
 header-length node cap count n c =
-    let f : List ℕ = headFrame node cap count in
-    omega (arith, head-size node cap count n c, length-append (textOf f) (10 ∷ []), length-text f)
+    let f : List ℕ = headFrame kind11 node cap count in
+    omega (arith, head-size kind11 node cap count n c, length-append (textOf f) (10 ∷ []), length-text f)
 
 key-length : (key : List ℕ) → length key ≡ 9 → length (lineOf (2 ∷ key)) ≡ 21
 key-length key h = omega (arith, length-append (textOf (2 ∷ key)) (10 ∷ []), length-text (2 ∷ key))
 
+-- a number of two bytes, lightest first
+two-bytes : (count : ℕ) → count < 65536 → (count % 256) ∷ (count / 256) ∷ [] ≡ leBytes 2 count
+unfolding leBytes
+two-bytes count few = let e : count / 256 ≡ count / 256 % 256 = omega arith in ap (λ (x : ℕ). (count % 256) ∷ x ∷ []) e
+
 -- the pieces of the first line
-pub header-placed : (node cap : List ℕ) (count : ℕ) → length node ≡ 32 → length cap ≡ 32
-    → (d : List ℕ) {o1 o2 o3 o4 : List ℕ} → 133 ≤ length d → o1 ≡ encodedTo (1 ∷ []) d 0 → o2 ≡ encodedTo node o1 2 → o3 ≡ encodedTo cap o2 66
-    → o4 ≡ encodedTo (count ∷ []) o3 130 → Placed d 0 (lineOf (headFrame node cap count)) (set o4 132 10)
-header-placed node cap count n c d h e1 e2 e3 e4 =
-    let w1 = text-piece (begin d 0 (omega arith)) (1 ∷ []) 1 refl (omega arith) e1 in
+pub header-placed : (node cap : List ℕ) (count : ℕ) → length node ≡ 32 → length cap ≡ 32 → count < 65536
+    → (d : List ℕ) {o1 o2 o3 o4 : List ℕ} → 135 ≤ length d → o1 ≡ encodedTo (0x11 ∷ []) d 0 → o2 ≡ encodedTo node o1 2 → o3 ≡ encodedTo cap o2 66
+    → o4 ≡ encodedTo ((count % 256) ∷ (count / 256) ∷ []) o3 130 → Placed d 0 (lineOf (headFrame kind11 node cap count)) (set o4 134 10)
+header-placed node cap count n c few d {o1} {o2} {o3} h e1 e2 e3 e4 =
+    let number = leBytes 2 count in
+    let w1 = text-piece (begin d 0 (omega arith)) (0x11 ∷ []) 1 refl (omega arith) e1 in
     let w2 = text-piece w1 node 32 n (omega arith) e2 in
     let w3 = text-piece w2 cap 32 c (omega arith) e3 in
-    let w4 = text-piece w3 (count ∷ []) 1 refl (omega arith) e4 in
-    whole (lineOf (headFrame node cap count)) (feed w4 (omega arith))
-    (rw (text-append (node ++ cap) (count ∷ []), text-append node cap)) (header-length node cap count n c) h
+    let w4 = text-piece w3 number 2 (leBytes-length 2 count) (omega arith) (e4 ∙ ap (λ (t : List ℕ). encodedTo t o3 130) (two-bytes count few)) in
+    whole (lineOf (headFrame kind11 node cap count)) (feed w4 (omega arith))
+    (rw (text-append (node ++ cap) number, text-append node cap)) (header-length node cap count n c) h
 
 -- the pieces of a key's line
 pub key-placed : (key : List ℕ) → length key ≡ 9 → (d : List ℕ) (at : ℕ) {o1 o2 : List ℕ} → at + 21 ≤ length d → o1 ≡ encodedTo (2 ∷ []) d at
@@ -124,15 +132,15 @@ key-placed key n d at {o1} {o2} h e1 e2 =
 
 -- the text up to the key at place i
 abbrev pub textTo : List ℕ → List ℕ → List ℕ → ℕ → ℕ → List ℕ
-textTo node cap keys count i = lineOf (headFrame node cap count) ++ keyLines (chunks i keys)
+textTo node cap keys count i = lineOf (headFrame kind11 node cap count) ++ keyLines (chunks i keys)
 
 -- what holds at the loop's head in `save`
 pub record Saving (node cap keys : List ℕ) (count : ℕ) (d : List ℕ) (i : ℕ) (out : List ℕ) : Type 0 where
   pub inside : i ≤ count
-  pub few : count ≤ 240
+  pub few : count ≤ keyLimit
   pub long : 9 * count ≤ length keys
-  pub fits : 133 + 21 * count ≤ length d
-  pub text : Written d (textTo node cap keys count i) (133 + 21 * i) out
+  pub fits : 135 + 21 * count ≤ length d
+  pub text : Written d (textTo node cap keys count i) (135 + 21 * i) out
 
 lines-append : (ks : List (List ℕ)) (k : List ℕ) → keyLines (ks ++ (k ∷ [])) ≡ keyLines ks ++ lineOf (2 ∷ k)
 unfolding keyLines
@@ -148,22 +156,22 @@ nines (suc m) b l = (length-take-le 9 b (omega arith), nines m (drop 9 b) (omega
 
 -- a good index has at most so many keys
 pub few-keys : (limit : ℕ) (node cap keys : List ℕ) (count : ℕ)
-    → good limit (record { node = node; cap = cap; keys = chunks count keys }) ≡ true → count ≤ limit
+    → good limit (viewOf node cap keys count) ≡ true → count ≤ limit
 few-keys limit node cap keys count g =
-    let few = good-facts limit (record { node = node; cap = cap; keys = chunks count keys }) g .few in
+    let few = good-facts limit (viewOf node cap keys count) g .few in
     omega (arith, chunks-length count keys)
 
 -- the length of the whole text
 pub saved-length : (node cap keys : List ℕ) (count : ℕ) → length node ≡ 32 → length cap ≡ 32 → 9 * count ≤ length keys
-    → length (snapshotOf (record { node = node; cap = cap; keys = chunks count keys })) ≡ 133 + 21 * count
+    → length (snapshotOf (viewOf node cap keys count)) ≡ 135 + 21 * count
 saved-length node cap keys count n c h =
-    sized-length (record { node = node; cap = cap; keys = chunks count keys }) n c (nines count keys h)
-    ∙ ap (λ (k : ℕ). 133 + 21 * k) (chunks-length count keys)
+    sized-length kind11 (viewOf node cap keys count) n c (nines count keys h)
+    ∙ ap (λ (k : ℕ). 135 + 21 * k) (chunks-length count keys)
 
 -- after a key's line
 pub saving-next : (node cap keys : List ℕ) (count : ℕ) (d : List ℕ) (i : ℕ) (out : List ℕ) → Saving node cap keys count d i out
     → i < count
-    → (key : List ℕ) → key ≡ keyAt keys i → (after : List ℕ) → after ≡ placed out (133 + 21 * i) (lineOf (2 ∷ key))
+    → (key : List ℕ) → key ≡ keyAt keys i → (after : List ℕ) → after ≡ placed out (135 + 21 * i) (lineOf (2 ∷ key))
     → Saving node cap keys count d (i + 1) after
 saving-next node cap keys count d i out s h key read after p =
     let long = s .long in
@@ -172,12 +180,12 @@ saving-next node cap keys count d i out s h key read after p =
     let room = s .fits in
     let w = piece (s .text) (lineOf (2 ∷ key)) 21 (key-length key nine) (omega arith) p in
     let all : textTo node cap keys count i ++ lineOf (2 ∷ key) ≡ textTo node cap keys count (i + 1) =
-    append-assoc (lineOf (headFrame node cap count)) (keyLines (chunks i keys)) (lineOf (2 ∷ key))
-    ∙ ap (λ (l : List ℕ). lineOf (headFrame node cap count) ++ l)
+    append-assoc (lineOf (headFrame kind11 node cap count)) (keyLines (chunks i keys)) (lineOf (2 ∷ key))
+    ∙ ap (λ (l : List ℕ). lineOf (headFrame kind11 node cap count) ++ l)
     (sym (lines-append (chunks i keys) key)
     ∙ ap (λ (k : List ℕ). keyLines (chunks i keys ++ (k ∷ []))) is
     ∙ sym (ap keyLines (ap (λ (n : ℕ). chunks n keys) (add-one i) ∙ chunks-more i keys))) in
-    let end : 133 + 21 * i + 21 ≡ 133 + 21 * (i + 1) = omega arith in
+    let end : 135 + 21 * i + 21 ≡ 135 + 21 * (i + 1) = omega arith in
     record {
       inside = omega arith;
       few = s .few;
@@ -189,31 +197,26 @@ saving-next node cap keys count d i out s h key read after p =
       };
     }
 
--- the first line with a count that is the index's
-pub header-as : (node cap : List ℕ) (said count : ℕ) (d : List ℕ) {first : List ℕ} → first ≡ placed d 0 (lineOf (headFrame node cap said))
-    → said ≡ count → first ≡ placed d 0 (lineOf (headFrame node cap count))
-header-as node cap said count d e s = e ∙ ap (λ (k : ℕ). placed d 0 (lineOf (headFrame node cap k))) s
-
 -- the buffer `first`, with its first line, before the loop
-module _ (node cap keys : List ℕ) (count : ℕ) (d first : List ℕ) (n : length node ≡ 32) (c : length cap ≡ 32) (h : 133 + 21 * count ≤ length d)
-    (p : first ≡ placed d 0 (lineOf (headFrame node cap count))) where
-  begun : Written d (lineOf (headFrame node cap count)) 133 first
-  begun = piece (begin d 0 (omega arith)) (lineOf (headFrame node cap count)) 133 (header-length node cap count n c) (omega arith) p
+module _ (node cap keys : List ℕ) (count : ℕ) (d first : List ℕ) (n : length node ≡ 32) (c : length cap ≡ 32) (h : 135 + 21 * count ≤ length d)
+    (p : first ≡ placed d 0 (lineOf (headFrame kind11 node cap count))) where
+  begun : Written d (lineOf (headFrame kind11 node cap count)) 135 first
+  begun = piece (begin d 0 (omega arith)) (lineOf (headFrame kind11 node cap count)) 135 (header-length node cap count n c) (omega arith) p
 
   -- its rest is as it was
-  rest-same : (k : ℕ) → drop (133 + k) first ≡ drop (133 + k) d
+  rest-same : (k : ℕ) → drop (135 + k) first ≡ drop (135 + k) d
   rest-same k =
-      let l = lineOf (headFrame node cap count) in
-      let past : 133 + k ≡ length l + k = let e = begun .ends in omega arith in
+      let l = lineOf (headFrame kind11 node cap count) in
+      let past : 135 + k ≡ length l + k = let e = begun .ends in omega arith in
       ap (λ (j : ℕ). drop j first) past
       ∙ ap (drop (length l + k)) (begun .is)
-      ∙ drop-append-add l (drop 133 d) k
-      ∙ drop-drop k 133 d
+      ∙ drop-append-add l (drop 135 d) k
+      ∙ drop-drop k 135 d
 
-  pub saving-start : count ≤ 240 → 9 * count ≤ length keys → Saving node cap keys count first 0 first
+  pub saving-start : count ≤ keyLimit → 9 * count ≤ length keys → Saving node cap keys count first 0 first
   unfolding chunks keyLines
   saving-start few long =
-      let l = lineOf (headFrame node cap count) in
+      let l = lineOf (headFrame kind11 node cap count) in
       record {
         inside = omega arith;
         few = few;
@@ -227,13 +230,13 @@ module _ (node cap keys : List ℕ) (count : ℕ) (d first : List ℕ) (n : leng
 
   -- after the last line the buffer starts with the whole text
   pub saving-end : (i : ℕ) (out : List ℕ) → Saving node cap keys count first i out → count ≤ i
-      → out ≡ snapshotOf (record { node = node; cap = cap; keys = chunks count keys }) ++ drop (133 + 21 * count) d
-  unfolding snapshotOf
+      → out ≡ snapshotOf (viewOf node cap keys count) ++ drop (135 + 21 * count) d
+  unfolding formOf
   saving-end i out s k =
       let all : i ≡ count = let l = s .inside in omega arith in
       s .text .is
-      ∙ ap (λ (m : ℕ). textTo node cap keys count m ++ drop (133 + 21 * m) first) all
-      ∙ ap₂ (λ (m : ℕ) (r : List ℕ). lineOf (headFrame node cap m) ++ keyLines (chunks count keys) ++ r)
+      ∙ ap (λ (m : ℕ). textTo node cap keys count m ++ drop (135 + 21 * m) first) all
+      ∙ ap₂ (λ (m : ℕ) (r : List ℕ). lineOf (headFrame kind11 node cap m) ++ keyLines (chunks count keys) ++ r)
       (sym (chunks-length count keys)) (rest-same (21 * count))
 
 -- what `save` answers

@@ -31,7 +31,7 @@ reloadedBy index (loaded v) = now v
 
 -- what a call at a limit must answer: 0 for an index that breaks its rules, then 14 with its line
 abbrev pub reloadFor : ℕ → KeyIndex → List ℕ → Reloading
-reloadFor limit index text = cond (good limit (view index)) (reloadedBy index (loadOf limit text)) (back (only 0) index)
+reloadFor limit index text = cond (good limit (view index)) (reloadedBy index (loadOf text)) (back (only 0) index)
 
 abbrev pub answeredBy : KeyIndex → Checked → Reloading
 answeredBy index Accepted = now (view index)

@@ -3,3 +3,4 @@ pub mod Load
 pub mod Calls
 pub mod Parts
 pub mod Shape
+pub mod Before

@@ -7,11 +7,12 @@ use mathlib.Core.List.{List, [], _∷_}
 use mathlib.Core.Option.{Option, some, none}
 use lib.Dec.{eqb, leb}
 use lib.ListN.{getD, take, drop}
-use Rattle.octets.specs.Bytes.{be}
+use Rattle.octets.specs.Bytes.{be, le}
 use Rattle.hex.specs.Digits.{bytesOf, allDigits}
 use Rattle.content_key.specs.Key.{selectorOf}
 use Rattle.key_index.specs.View.{View, freshOf, withKeys}
 use Rattle.key_index.specs.Good.{awayFrom}
+use Rattle.snapshot.specs.Text.{Kind, kind01, kind11, headSize}
 
 -- what a text gives
 pub data Loading : Type 0 where
@@ -64,20 +65,33 @@ keysOf node cap line from (suc n) text =
     (before (keyIn text) (keysOf node cap (suc line) (suc (awayFrom node (keyIn text))) n (afterFrame 10 text)))
     (badLine line)
 
--- the first line's parts
-abbrev pub nodeIn : List ℕ → List ℕ
-nodeIn text = take 32 (drop 1 (frameOf 66 text))
+-- the parts of a first line
+abbrev pub nodeIn : Kind → List ℕ → List ℕ
+nodeIn kind text = take 32 (drop 1 (frameOf (headSize kind) text))
 
-abbrev pub capIn : List ℕ → List ℕ
-capIn text = take 32 (drop 33 (frameOf 66 text))
+abbrev pub capIn : Kind → List ℕ → List ℕ
+capIn kind text = take 32 (drop 33 (frameOf (headSize kind) text))
 
-abbrev pub countIn : List ℕ → ℕ
-countIn text = getD (frameOf 66 text) 65 0
+abbrev pub countIn : Kind → List ℕ → ℕ
+countIn kind text = le (drop 65 (frameOf (headSize kind) text))
 
--- the text starts with a first line: 01, node id, cap, and a count of at most the limit
-unfoldable pub isHeader : ℕ → List ℕ → Bool
-isHeader limit text = isFrame 66 text && eqb (getD (frameOf 66 text) 0 0) 1 && leb (countIn text) limit
+-- the text starts with a first line of this kind: its mark, node id, cap, and a count of at most its limit
+unfoldable pub isHeader : Kind → List ℕ → Bool
+isHeader kind text =
+    isFrame (headSize kind) text
+    && eqb (getD (frameOf (headSize kind) text) 0 0) (kind .mark)
+    && leb (countIn kind text) (kind .limit)
 
-unfoldable pub loadOf : ℕ → List ℕ → Loading
-loadOf limit text =
-    cond (isHeader limit text) (keysOf (nodeIn text) (capIn text) 2 0 (countIn text) (afterFrame 66 text)) (badLine 1)
+-- what a text gives as one of this kind
+unfoldable pub readAs : Kind → List ℕ → Loading
+readAs kind text =
+    cond (isHeader kind text)
+    (keysOf (nodeIn kind text) (capIn kind text) 2 0 (countIn kind text) (afterFrame (headSize kind) text))
+    (badLine 1)
+
+-- the kind that a text is read as: 11 where it starts with a first line of that kind, else 01
+unfoldable pub kindIn : List ℕ → Kind
+kindIn text = cond (isHeader kind11 text) kind11 kind01
+
+abbrev pub loadOf : List ℕ → Loading
+loadOf text = readAs (kindIn text) text

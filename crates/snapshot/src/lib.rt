@@ -8,10 +8,10 @@ use refusal::Checked;
 pub use saving::save;
 
 // The longest saved text.
-pub const LONGEST: usize = 5173;
+pub const LONGEST: usize = 63135;
 
-// The bytes of the first line.
-const FIRST: usize = 133;
+// The bytes of the first line that is written.
+const FIRST: usize = 135;
 
 // The bytes of a key's line.
 const LINE: usize = 21;

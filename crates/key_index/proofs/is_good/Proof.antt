@@ -2,47 +2,50 @@
 -- `Turn`, whose laws answer the returns and the next turn. The measure is what is left of the count. Assumes nothing.
 use Prim.Native.Nat.{_-_}
 use native.Mathlib.Omega.{arith}
-use mathlib.Core.Path.{_≡_}
 use mathlib.Core.Logic.{⊎-elim}
-use lib.ListN.{length}
 use borrow.Author.Needs.{needs}
 use borrow.Author.Tests.{leb-true, leb-false}
 use Rattle.distance.proofs.Tested.{over-true, over-false}
+use Rattle.key_index.specs.View.{keyLimit}
 use Rattle.key_index.proofs.Scan.{Scan, Turn, good-many, scan-start, scan-end, turn-selector, turn-order, turn-cap, turn-next}
 use Rattle.key_index.proofs.is_good.Statement.{statement}
 use Rattle.key_index.proofs.is_good.Tie as tie
 
 abbrev Inv-loop : tie.InvT-loop
-Inv-loop index last₀ i₀ i-end last i = Scan index last i
+Inv-loop node cap keys count last₀ i₀ last i = Scan keyLimit node cap keys count last i
 
 abbrev μ-loop : tie.MeasureT-loop
-μ-loop index last₀ i₀ i-end last i = index .count - i
+μ-loop node cap keys count last₀ i₀ last i = count - i
 
 -- the loop's head, from where a turn has read its key and its distance
 abbrev head : tie.After-away Inv-loop μ-loop → tie.At-loop Inv-loop μ-loop
-head c = c .before .before .before .before .before .before .before
+head c = c .before .before .before
+
+abbrev args : tie.After-away Inv-loop μ-loop → tie.Start Inv-loop μ-loop
+args c = head c .before .before .before
 
 turn : (c : tie.After-away Inv-loop μ-loop)
-    → Turn (head c .before .before .args .t1) (head c .loop .last) (head c .loop .i) (c .before .before .key-at .result) (c .away .result)
+    → Turn keyLimit (args c .args .node) (args c .args .cap) (args c .args .keys .now) (args c .args .count) (head c .loop .last) (head c .loop .i)
+    (c .before .part9 .result) (c .away .result)
 turn c =
     record {
       scan = head c .loop .inv;
-      more = c .before .before .before .before .before .before .loop-test .taken;
-      read = c .before .before .key-at .ensures;
+      more = c .before .before .loop-test .taken;
+      read = c .before .part9 .ensures;
       is = c .away .ensures;
     }
 
-size : (c : tie.Start Inv-loop μ-loop) → length (c .args .t1 .keys) ≡ 2160
-size c = search needs
-
 returns : tie.Need-returns Inv-loop μ-loop
-returns c = good-many _ (search needs)
+returns c = good-many _ _ _ _ _ (search needs)
 
 loop-holds : tie.Need-loop-holds Inv-loop μ-loop
-loop-holds c = scan-start _ _ (search needs) (size (c .before))
+loop-holds c = scan-start _ _ _ _ _ _ (search needs)
 
-key-at-requires : tie.Need-key-at-requires Inv-loop μ-loop
-key-at-requires c κs = search needs
+mul-part9 : tie.Need-mul-part9 Inv-loop μ-loop
+mul-part9 c = search needs
+
+part9-requires : tie.Need-part9-requires Inv-loop μ-loop
+part9-requires c κs = search needs
 
 away-requires : tie.Need-away-requires Inv-loop μ-loop
 away-requires c κs = search needs
@@ -67,7 +70,7 @@ at-most-requires-2 c κs = search needs
 returns-4 : tie.Need-returns-4 Inv-loop μ-loop
 returns-4 c =
     let t = rw (c .before .at-most2 .ensures) at (c .if5 .taken) in
-    turn-cap (turn (c .before .before .before .before .before)) (omega (arith, leb-true, over-true))
+    turn-cap (turn (c .before .before .before .before)) (omega (arith, leb-true, over-true))
 
 add-i : tie.Need-add-i Inv-loop μ-loop
 add-i c = search needs
@@ -77,8 +80,8 @@ loop-less c = search needs
 
 loop-again : tie.Need-loop-again Inv-loop μ-loop
 loop-again c =
-    turn-next (turn (c .before .before .before .before .before)) (search needs)
-    (⊎-elim (λ w z. let u = rw (w .1 .ensures) at (w .2 .left) in omega (arith, leb-false, over-false)) (λ w z. absurd (omega (arith, w .left, z))) (c .before .before .before .if3 .came))
+    turn-next (turn (c .before .before .before .before)) (search needs)
+    (⊎-elim (λ w z. let u = rw (w .1 .ensures) at (w .2 .left) in omega (arith, leb-false, over-false)) (λ w z. absurd (omega (arith, w .left, z))) (c .before .before .if3 .came))
     (let u = rw (c .before .at-most2 .ensures) at (c .if5 .left) in omega (arith, leb-false, over-false))
 
 returns-5 : tie.Need-returns-5 Inv-loop μ-loop
@@ -92,7 +95,8 @@ is-good-spec =
     μ-loop
     returns
     loop-holds
-    key-at-requires
+    mul-part9
+    part9-requires
     away-requires
     array-read-if2
     returns-2

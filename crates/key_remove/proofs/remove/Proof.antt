@@ -1,145 +1,102 @@
--- `key_remove::remove` meets its contract: each way out is a case of the definition (`proofs/Cases.antt`). The place of a held key is
--- inside the index, and the keys around it are those that stay (`proofs/Without.antt`). Assumes nothing.
-use Prim.Native.Nat.{ℕ, suc, _-_, _≤_, _<_}
+-- `key_remove::remove` meets its contract: the tests say what the call comes to, and the keys around the place found are those that stay.
+-- Assumes nothing.
+use Prim.Native.Nat.{ℕ, _-_, _*_, _≤_, _<_}
 use native.Mathlib.Omega.{arith}
-use mathlib.Core.Path.{_≡_, sym, ap, _∙_}
-use mathlib.Core.Bool.{true}
-use mathlib.Core.List.{List, _++_}
-use lib.ListN.{take, drop}
-use borrow.Author.Tests.{not-true, not-false}
-use Rattle.refusal.specs.Outcome.{given}
-use Rattle.refusal.proofs.Outcomes.{was-given, was-refused}
-use Rattle.content_key.specs.Key.{keyOf}
-use Rattle.key_index.specs.View.{view, withKeys, chunks}
-use Rattle.key_index.specs.Good.{good}
-use Rattle.key_index.specs.Search.{placeOf}
+use mathlib.Core.Path.{_≡_, refl, sym, ap, ap₂, _∙_}
+use mathlib.Core.List.{List}
+use lib.ListN.{length}
+use denote.Ref as ref
+use Rattle.refusal.specs.Says.{Said}
+use Rattle.key_index.specs.View.{keyLimit, view, withKeys, chunks}
 use Rattle.key_index.specs.declared.KeyIndex.{KeyIndex}
-use Rattle.key_index.specs.declared.Place.the-variants.{At}
 use Rattle.key_index.proofs.Chunks.{chunks-length}
-use Rattle.key_index.proofs.Rules.{good-facts}
-use Rattle.key_index.proofs.Places.{place-inside, place-among, at-held, nothing-held}
-use Rattle.refusal.specs.Says.{only}
-use Rattle.key_remove.specs.Remove.{Removing, refused}
+use Rattle.key_remove.specs.Remove.{refused, removed, withoutAt, removeOf}
 use Rattle.key_remove.specs.Answer.{now, back, givenBy, removeFor}
-use Rattle.key_remove.proofs.Without.{without-place}
-use Rattle.key_remove.proofs.Cases.{remove-bad, remove-no-key, remove-absent, remove-held}
 use borrow.Author.Needs.{needs}
 use Rattle.key_remove.proofs.remove.Statement.{statement}
 use Rattle.key_remove.proofs.remove.Tie as tie
 
--- an index whose key stands at a place
-module _ (index : KeyIndex) (key : List ℕ) (place : ℕ) (g : good 240 (view index) ≡ true)
-    (e : placeOf key (chunks (index .count) (index .keys)) ≡ At place) where
-  inside : (place < index .count) × (index .count ≤ 240)
-  inside =
-      let n = chunks-length (index .count) (index .keys) in
-      let few = good-facts 240 (view index) g .few in
-      (omega (arith, place-inside key (chunks (index .count) (index .keys)) place e), omega arith)
+-- the keys around a place are those of the new index; `at`, `all` and `n` are what the code has
+taken : (index : KeyIndex) (bytes keys : List ℕ) (place at all n : ℕ)
+    → removeOf keyLimit (view index) bytes ≡ removed (withKeys (view index) (withoutAt place (chunks (index .count) (index .keys))))
+    → chunks (all - 1) keys ≡ withoutAt at (chunks all (index .keys))
+    → at ≡ place → all ≡ index .count → n ≡ index .count - 1
+    → now (withKeys (view index) (chunks n keys)) ≡ removeFor keyLimit index bytes
+taken index bytes keys place at all n e moved a b c =
+    let d : n ≡ all - 1 = omega arith in
+    ap (λ (l : List (List ℕ)). now (withKeys (view index) l))
+    (ap (λ (m : ℕ). chunks m keys) d ∙ moved ∙ ap₂ (λ (i m : ℕ). withoutAt i (chunks m (index .keys))) a b)
+    ∙ ap (givenBy index) (sym e)
 
-  -- the keys around it are those of the new index
-  taken : (bytes keys : List ℕ) → given key ≡ keyOf bytes
-      → chunks (index .count - 1) keys ≡ take place (chunks (index .count) (index .keys)) ++ drop (suc place) (chunks (index .count) (index .keys))
-      → now (withKeys (view index) (chunks (index .count - 1) keys)) ≡ removeFor 240 index bytes
-  taken bytes keys k moved =
-      let old = chunks (index .count) (index .keys) in
-      ap (λ (l : List (List ℕ)). now (withKeys (view index) l)) (moved ∙ sym (without-place key old place e))
-      ∙ ap (givenBy index) (sym (remove-held 240 (view index) bytes g k (at-held key old place e)))
+-- a refused call hands the index back
+handed-back : (index : KeyIndex) (bytes : List ℕ) (says : Said) → removeOf keyLimit (view index) bytes ≡ refused says → back says index ≡ removeFor keyLimit index bytes
+handed-back index bytes says e = ap (givenBy index) (sym e)
 
--- where `key` has answered, from where `find` has
-abbrev asked : tie.After-find → tie.After-key
-asked c = c .before .before .before .before .before .before .before
+abbrev start : tie.After-seek → tie.Start
+start c = c .before .before .before .before .before .before .before
 
--- a refusal with the number that is due
-said : (index : KeyIndex) (n m : ℕ) {o : Removing} → o ≡ refused (only m) → n ≡ m → back (only n) index ≡ givenBy index o
-said index n m e s = ap (λ (k : ℕ). back (only k) index) s ∙ ap (givenBy index) (sym e)
+-- the place found
+abbrev place : tie.After-known-told2 → ℕ
+place c = c .before .sought2 .given .0 .0
 
--- the key is looked for among the keys in use
-among : (c : tie.After-find)
-    → placeOf (asked c .key .result .key) (chunks (asked c .before .before .before .before .args .t1 .count) (asked c .before .before .before .before .args .t1 .keys))
-    ≡ c .find .result
-among c = place-among _ _ _ (asked c .before .before .before .before .args .t1 .count) (c .find .ensures) (search needs)
+-- where the tests have answered
+abbrev sought : tie.After-known-told2 → tie.After-seek
+sought c = c .before .before .before
 
-is-good-requires : tie.Need-is-good-requires
-is-good-requires c κs = search needs
+inside : (c : tie.After-known-told2) → (place c < start (sought c) .args .t1 .count) × (start (sought c) .args .t1 .count ≤ keyLimit)
+inside c =
+    let i = start (sought c) .args .t1 in
+    let n = chunks-length (i .count) (i .keys) in
+    let s = sought c .seek .ensures .inside _ (c .before .sought2 .given .1) in
+    (omega (arith, s .0), omega (arith, s .1))
 
-returns : tie.Need-returns
-returns c =
-    let index = c .before .before .before .args .t1 in
-    ap (givenBy index) (sym (remove-bad 240 (view index) _ (sym (c .before .is-good .ensures) ∙ not-true _ (c .if1 .taken))))
+size : (c : tie.Start) → length (c .args .t1 .keys) ≡ 9 * keyLimit
+size c = search needs
 
-key-requires : tie.Need-key-requires
-key-requires c κs = search needs
+seek-requires : tie.Need-seek-requires
+seek-requires c κs = search needs
 
-enum-known-checked : tie.Need-enum-known-checked
-enum-known-checked c = search needs
+enum-known-sought : tie.Need-enum-known-sought
+enum-known-sought c = search needs
 
-returns-2 : tie.Need-returns-2
-returns-2 c =
-    let at = c .before .before .before in
-    let index = at .before .before .before .before .args .t1 in
-    let k = was-refused _ _ (at .key .ensures .0) (c .before .checked .given .1) in
-    ap (givenBy index) (sym (remove-no-key 240 (view index) _ (sym (at .before .before .is-good .ensures) ∙ not-false _ (at .before .if1 .left)) k))
+enum-known-sought-2 : tie.Need-enum-known-sought-2
+enum-known-sought-2 c = search needs
 
-enum-told : tie.Need-enum-told
-enum-told c = search needs
-
-find-requires : tie.Need-find-requires
-find-requires c κs = search needs
-
-enum-known-found : tie.Need-enum-known-found
-enum-known-found c = search needs
-
-enum-told-2 : tie.Need-enum-told-2
-enum-told-2 c = search needs
-
-returns-3 : tie.Need-returns-3
-returns-3 c =
-    let told = c .before .before .before .before .before .before .before in
-    let at = told .before .before in
-    let index = at .before .before .before .before .args .t1 in
-    let k = was-given _ _ (at .key .ensures .0) (told .enum-told .given .1) in
-    said index _ 12 (remove-absent 240 (view index) _ (sym (at .before .before .is-good .ensures) ∙ not-false _ (at .before .if1 .left)) k (nothing-held _ _ (among (c .before .before) ∙ c .enum-told2 .given .1)))
-    (search needs)
+slice-aggregate-without-at : tie.Need-slice-aggregate-without-at
+slice-aggregate-without-at c = search needs
 
 without-at-requires : tie.Need-without-at-requires
 without-at-requires c κs =
-    let found = c .before .before in
-    let at = found .before .before .before .before .before .before .before .before .before in
-    let index = at .before .before .before .before .args .t1 in
-    let i = inside index _ _ (sym (at .before .before .is-good .ensures) ∙ not-false _ (at .before .if1 .left)) (among (found .before .before) ∙ found .found .given .1) in
-    (omega (arith, i .0), i .1)
+    let at = c .before .before .before .before .before .before .before in
+    let i = inside at in
+    ((omega (arith, i .0), i .1), (size (start (sought at)), refl))
 
-sub-next : tie.Need-sub-next
-sub-next c =
-    let found = c .before .before .before in
-    let at = found .before .before .before .before .before .before .before .before .before in
-    let index = at .before .before .before .before .args .t1 in
-    let i = inside index _ _ (sym (at .before .before .is-good .ensures) ∙ not-false _ (at .before .if1 .left)) (among (found .before .before) ∙ found .found .given .1) in
+sub-fewer : tie.Need-sub-fewer
+sub-fewer c =
+    let i = inside (c .before .before .before .before .before .before .before .before .before) in
     omega (arith, i .0)
 
-returns-4 : tie.Need-returns-4
-returns-4 c =
-    let found = c .before .before .before in
-    let told = found .before .before .before .before .before .before .before in
-    let at = told .before .before in
-    let index = at .before .before .before .before .args .t1 in
-    let k = was-given _ _ (at .key .ensures .0) (told .enum-told .given .1) in
-    taken index _ _ (sym (at .before .before .is-good .ensures) ∙ not-false _ (at .before .if1 .left)) (among (found .before .before) ∙ found .found .given .1) _ _ k (c .without-at .ensures)
+returns : tie.Need-returns
+returns c =
+    let at = c .before .before .before in
+    let a = start at .args in
+    handed-back (a .t1) (ref.now (a .bytes)) _ (at .seek .ensures .refuses _ (c .before .sought .given .1))
+
+returns-2 : tie.Need-returns-2
+returns-2 c =
+    let at = c .before .before .before .before .before .before .before .before .before in
+    taken (start (sought at) .args .t1) _ _ (place at) _ _ _ (sought at .seek .ensures .finds _ (at .before .sought2 .given .1)) (c .before .without-at .ensures)
+    (omega arith) (omega arith) (omega arith)
 
 pub remove-spec : {M : Type 1} → statement M
 remove-spec =
     tie.close
     (tie.spec
-    is-good-requires
-    returns
-    key-requires
-    enum-known-checked
-    returns-2
-    enum-told
-    find-requires
-    enum-known-found
-    enum-told-2
-    returns-3
+    seek-requires
+    enum-known-sought
+    enum-known-sought-2
+    slice-aggregate-without-at
     without-at-requires
-    sub-next
-    returns-4)
+    sub-fewer
+    returns
+    returns-2)

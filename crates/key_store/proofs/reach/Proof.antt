@@ -1,25 +1,23 @@
 -- `key_store::reach` meets its contract: the two cases of the radius (`proofs/Facts.antt`). Assumes nothing.
-use Prim.Native.Nat.{ℕ}
+use Prim.Native.Nat.{ℕ, _-_}
 use native.Mathlib.Omega.{arith}
-use mathlib.Core.Path.{_≡_, sym, ap, _∙_}
+use mathlib.Core.Path.{sym, ap, _∙_}
 use mathlib.Core.List.{List}
-use lib.ListN.{length}
+use denote.Ref.{now}
 use Rattle.distance.specs.Distance.{xorOf}
 use Rattle.content_key.specs.Key.{keyId}
-use Rattle.key_index.specs.View.{view}
+use Rattle.key_index.specs.View.{keyLimit}
 use Rattle.key_index.proofs.Chunks.{chunks-length}
 use Rattle.key_store.proofs.Facts.{reach-room, reach-full, full-last}
 use borrow.Author.Needs.{needs}
 use Rattle.key_store.proofs.reach.Statement.{statement}
 use Rattle.key_store.proofs.reach.Tie as tie
 
-size : (c : tie.Start) → length (c .args .t1 .keys) ≡ 2160
-size c = search needs
-
 returns : tie.Need-returns
 returns c =
-    let i = c .before .before .args .t1 in
-    sym (reach-room 240 (view i) (omega (arith, chunks-length (i .count) (i .keys), c .before .if1 .taken)))
+    let a = c .before .before .args in
+    let n = chunks-length (a .count) (now (a .keys)) in
+    sym (reach-room keyLimit _ (omega (arith, c .if1 .taken)))
 
 sub-key-at : tie.Need-sub-key-at
 sub-key-at c = search needs
@@ -32,13 +30,14 @@ away-requires c κs = search needs
 
 returns-2 : tie.Need-returns-2
 returns-2 c =
-    let s = c .before .before .before .before .before .before .before in
-    let i = s .args .t1 in
-    let left = c .before .before .before .before .before .before .if1 .left in
+    let s = c .before .before .before .before in
+    let a = s .args in
+    let left = c .before .before .if1 .left in
+    let n = chunks-length (a .count) (now (a .keys)) in
     c .away .ensures
-    ∙ ap (λ (k : List ℕ). xorOf (i .node) (keyId k))
-    (c .before .key-at .ensures ∙ full-last 239 (i .count) (i .node) (i .cap) (i .keys) (s .pre) left (omega (arith, size s)))
-    ∙ sym (reach-full 240 (view i) (omega (arith, chunks-length (i .count) (i .keys))))
+    ∙ ap (λ (k : List ℕ). xorOf (a .node) (keyId k))
+    (c .before .key-at .ensures ∙ full-last (keyLimit - 1) (a .count) (a .node) (a .cap) (now (a .keys)) (s .pre .1) left (omega (arith, s .pre .0)))
+    ∙ sym (reach-full keyLimit _ (omega arith))
 
 pub reach-spec : {M : Type 1} → statement M
 reach-spec = tie.close (tie.spec returns sub-key-at key-at-requires away-requires returns-2)

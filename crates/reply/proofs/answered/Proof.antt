@@ -4,13 +4,13 @@ use lib.ListN.{length}
 use Rattle.refusal.specs.declared.Refusal.the-variants.{MessageType}
 use Rattle.message.specs.declared.Kind.the-variants.{Ping, Pong, FindNode, FoundNodes, FindContent, FoundContent, Offer, Accept, Store, Refused}
 use Rattle.message_rules.proofs.Places.{part-between}
-use Rattle.key_index.specs.View as keys
 use Rattle.routing_table.specs.View.{view}
 use Rattle.replies.specs.Nodes.{nodesReply}
 use Rattle.replies.specs.Content.{contentReply}
 use Rattle.replies.specs.Reply.{inRoom}
+use Rattle.reply.specs.Listing.{listing}
 use Rattle.reply.proofs.Answers.{replies-as, refused-replies}
-use Rattle.reply.proofs.Requests.{agree-both, answered-as, read-key}
+use Rattle.reply.proofs.Requests.{answered-as, read-key}
 use borrow.Author.Needs.{needs}
 use Rattle.reply.proofs.answered.Statement.{statement}
 use Rattle.reply.proofs.answered.Tie as tie
@@ -34,9 +34,7 @@ part-nodes-end : tie.Need-part-nodes-end
 part-nodes-end c = search needs
 
 nodes-requires : tie.Need-nodes-requires
-nodes-requires c κs =
-    let a = c .before .before .before .before .before .before .before .before .before .before .args in
-    agree-both (keys.view (a .index)) (view (a .table)) (c .before .before .before .before .before .before .before .before .before .before .pre) .1
+nodes-requires c κs = c .before .before .before .before .before .before .before .before .before .before .before .pre
 
 enum-told-2 : tie.Need-enum-told-2
 enum-told-2 c = search needs
@@ -52,10 +50,9 @@ part-found-end c = search needs
 
 found-requires : tie.Need-found-requires
 found-requires c κs =
-    let a = c .before .before .before .before .before .before .before .before .before .before .args in
+    let a = c .before .before .before .before .before .before .before .before .before .before .before .args in
     let r = c .before .before .before .before .before .read in
-    let g = agree-both (keys.view (a .index)) (view (a .table)) (c .before .before .before .before .before .before .before .before .before .before .pre) in
-    (g .0, g .1, read-key (a .message .now) (r .result) (r .ensures) (c .before .before .enum-told2 .given .1) _ (part-between (a .message .now) (r .result .start) (r .result .len)))
+    (c .before .before .before .before .before .before .before .before .before .before .before .pre, read-key (a .message .now) (r .result) (r .ensures) (c .before .before .enum-told2 .given .1) _ (part-between (a .message .now) (r .result .start) (r .result .len)))
 
 enum-known-kind : tie.Need-enum-known-kind
 enum-known-kind c = search needs
@@ -110,11 +107,11 @@ same-length c = search needs
 
 returns : tie.Need-returns
 returns c =
-    let a = c .before .before .before .before .before .before .before .before .before .before .before .before .before .args in
+    let a = c .before .before .before .before .before .before .before .before .before .before .before .before .before .before .args in
     let r = c .before .before .before .before .before .before .before .before .read in
     replies-as (c .before .before .nodes .ensures)
     (ap (inRoom (length (a .out .now)))
-    (answered-as (keys.view (a .index)) (view (a .table)) (record { own = a .own .now; content = a .content .now; connection = a .connection }) (a .message .now) (r .result) (r .ensures) FindNode (c .before .before .before .before .before .enum-told .given .1)
+    (answered-as (listing (a .listed .now) (a .count)) (view (a .table)) (record { own = a .own .now; content = a .content .now; connection = a .connection }) (a .message .now) (r .result) (r .ensures) FindNode (c .before .before .before .before .before .enum-told .given .1)
     ∙ sym (ap (nodesReply (view (a .table)) (a .own .now)) (part-between (a .message .now) (r .result .start) (r .result .len)))))
 
 same-length-2 : tie.Need-same-length-2
@@ -122,60 +119,60 @@ same-length-2 c = search needs
 
 returns-2 : tie.Need-returns-2
 returns-2 c =
-    let a = c .before .before .before .before .before .before .before .before .before .before .before .before .before .args in
+    let a = c .before .before .before .before .before .before .before .before .before .before .before .before .before .before .args in
     let r = c .before .before .before .before .before .before .before .before .read in
     replies-as (c .before .before .found .ensures)
     (ap (inRoom (length (a .out .now)))
-    (answered-as (keys.view (a .index)) (view (a .table)) (record { own = a .own .now; content = a .content .now; connection = a .connection }) (a .message .now) (r .result) (r .ensures) FindContent (c .before .before .before .before .before .enum-told2 .given .1)
-    ∙ sym (ap (contentReply (keys.view (a .index)) (view (a .table)) (a .content .now) (a .connection)) (part-between (a .message .now) (r .result .start) (r .result .len)))))
+    (answered-as (listing (a .listed .now) (a .count)) (view (a .table)) (record { own = a .own .now; content = a .content .now; connection = a .connection }) (a .message .now) (r .result) (r .ensures) FindContent (c .before .before .before .before .before .enum-told2 .given .1)
+    ∙ sym (ap (contentReply (listing (a .listed .now) (a .count)) (view (a .table)) (a .content .now) (a .connection)) (part-between (a .message .now) (r .result .start) (r .result .len)))))
 
 returns-3 : tie.Need-returns-3
 returns-3 c =
-    let a = c .before .before .before .before .before .before .before .before .before .before .args in
+    let a = c .before .before .before .before .before .before .before .before .before .before .before .args in
     let r = c .before .before .before .before .before .read in
-    refused-replies {right = c .before .before .kind .given .0 .0} (a .out .now) (c .refused .ensures) (search needs) (ap (inRoom (length (a .out .now))) (answered-as (keys.view (a .index)) (view (a .table)) (record { own = a .own .now; content = a .content .now; connection = a .connection }) (a .message .now) (r .result) (r .ensures) (Refused _) (c .before .before .kind .given .1)))
+    refused-replies {right = c .before .before .kind .given .0 .0} (a .out .now) (c .refused .ensures) (search needs) (ap (inRoom (length (a .out .now))) (answered-as (listing (a .listed .now) (a .count)) (view (a .table)) (record { own = a .own .now; content = a .content .now; connection = a .connection }) (a .message .now) (r .result) (r .ensures) (Refused _) (c .before .before .kind .given .1)))
 
 returns-4 : tie.Need-returns-4
 returns-4 c =
-    let a = c .before .before .before .before .before .before .before .before .before .args in
+    let a = c .before .before .before .before .before .before .before .before .before .before .args in
     let r = c .before .before .before .before .read in
-    refused-replies {right = MessageType} (a .out .now) (c .refused2 .ensures) (search needs) (ap (inRoom (length (a .out .now))) (answered-as (keys.view (a .index)) (view (a .table)) (record { own = a .own .now; content = a .content .now; connection = a .connection }) (a .message .now) (r .result) (r .ensures) Ping (c .before .enum-told3 .given .1)))
+    refused-replies {right = MessageType} (a .out .now) (c .refused2 .ensures) (search needs) (ap (inRoom (length (a .out .now))) (answered-as (listing (a .listed .now) (a .count)) (view (a .table)) (record { own = a .own .now; content = a .content .now; connection = a .connection }) (a .message .now) (r .result) (r .ensures) Ping (c .before .enum-told3 .given .1)))
 
 returns-5 : tie.Need-returns-5
 returns-5 c =
-    let a = c .before .before .before .before .before .before .before .before .before .args in
+    let a = c .before .before .before .before .before .before .before .before .before .before .args in
     let r = c .before .before .before .before .read in
-    refused-replies {right = MessageType} (a .out .now) (c .refused3 .ensures) (search needs) (ap (inRoom (length (a .out .now))) (answered-as (keys.view (a .index)) (view (a .table)) (record { own = a .own .now; content = a .content .now; connection = a .connection }) (a .message .now) (r .result) (r .ensures) Pong (c .before .enum-told4 .given .1)))
+    refused-replies {right = MessageType} (a .out .now) (c .refused3 .ensures) (search needs) (ap (inRoom (length (a .out .now))) (answered-as (listing (a .listed .now) (a .count)) (view (a .table)) (record { own = a .own .now; content = a .content .now; connection = a .connection }) (a .message .now) (r .result) (r .ensures) Pong (c .before .enum-told4 .given .1)))
 
 returns-6 : tie.Need-returns-6
 returns-6 c =
-    let a = c .before .before .before .before .before .before .before .before .before .args in
+    let a = c .before .before .before .before .before .before .before .before .before .before .args in
     let r = c .before .before .before .before .read in
-    refused-replies {right = MessageType} (a .out .now) (c .refused4 .ensures) (search needs) (ap (inRoom (length (a .out .now))) (answered-as (keys.view (a .index)) (view (a .table)) (record { own = a .own .now; content = a .content .now; connection = a .connection }) (a .message .now) (r .result) (r .ensures) FoundNodes (c .before .enum-told5 .given .1)))
+    refused-replies {right = MessageType} (a .out .now) (c .refused4 .ensures) (search needs) (ap (inRoom (length (a .out .now))) (answered-as (listing (a .listed .now) (a .count)) (view (a .table)) (record { own = a .own .now; content = a .content .now; connection = a .connection }) (a .message .now) (r .result) (r .ensures) FoundNodes (c .before .enum-told5 .given .1)))
 
 returns-7 : tie.Need-returns-7
 returns-7 c =
-    let a = c .before .before .before .before .before .before .before .before .before .args in
+    let a = c .before .before .before .before .before .before .before .before .before .before .args in
     let r = c .before .before .before .before .read in
-    refused-replies {right = MessageType} (a .out .now) (c .refused5 .ensures) (search needs) (ap (inRoom (length (a .out .now))) (answered-as (keys.view (a .index)) (view (a .table)) (record { own = a .own .now; content = a .content .now; connection = a .connection }) (a .message .now) (r .result) (r .ensures) FoundContent (c .before .enum-told6 .given .1)))
+    refused-replies {right = MessageType} (a .out .now) (c .refused5 .ensures) (search needs) (ap (inRoom (length (a .out .now))) (answered-as (listing (a .listed .now) (a .count)) (view (a .table)) (record { own = a .own .now; content = a .content .now; connection = a .connection }) (a .message .now) (r .result) (r .ensures) FoundContent (c .before .enum-told6 .given .1)))
 
 returns-8 : tie.Need-returns-8
 returns-8 c =
-    let a = c .before .before .before .before .before .before .before .before .before .args in
+    let a = c .before .before .before .before .before .before .before .before .before .before .args in
     let r = c .before .before .before .before .read in
-    refused-replies {right = MessageType} (a .out .now) (c .refused6 .ensures) (search needs) (ap (inRoom (length (a .out .now))) (answered-as (keys.view (a .index)) (view (a .table)) (record { own = a .own .now; content = a .content .now; connection = a .connection }) (a .message .now) (r .result) (r .ensures) Offer (c .before .enum-told7 .given .1)))
+    refused-replies {right = MessageType} (a .out .now) (c .refused6 .ensures) (search needs) (ap (inRoom (length (a .out .now))) (answered-as (listing (a .listed .now) (a .count)) (view (a .table)) (record { own = a .own .now; content = a .content .now; connection = a .connection }) (a .message .now) (r .result) (r .ensures) Offer (c .before .enum-told7 .given .1)))
 
 returns-9 : tie.Need-returns-9
 returns-9 c =
-    let a = c .before .before .before .before .before .before .before .before .before .args in
+    let a = c .before .before .before .before .before .before .before .before .before .before .args in
     let r = c .before .before .before .before .read in
-    refused-replies {right = MessageType} (a .out .now) (c .refused7 .ensures) (search needs) (ap (inRoom (length (a .out .now))) (answered-as (keys.view (a .index)) (view (a .table)) (record { own = a .own .now; content = a .content .now; connection = a .connection }) (a .message .now) (r .result) (r .ensures) Accept (c .before .enum-told8 .given .1)))
+    refused-replies {right = MessageType} (a .out .now) (c .refused7 .ensures) (search needs) (ap (inRoom (length (a .out .now))) (answered-as (listing (a .listed .now) (a .count)) (view (a .table)) (record { own = a .own .now; content = a .content .now; connection = a .connection }) (a .message .now) (r .result) (r .ensures) Accept (c .before .enum-told8 .given .1)))
 
 returns-10 : tie.Need-returns-10
 returns-10 c =
-    let a = c .before .before .before .before .before .before .before .before .before .args in
+    let a = c .before .before .before .before .before .before .before .before .before .before .args in
     let r = c .before .before .before .before .read in
-    refused-replies {right = MessageType} (a .out .now) (c .refused8 .ensures) (search needs) (ap (inRoom (length (a .out .now))) (answered-as (keys.view (a .index)) (view (a .table)) (record { own = a .own .now; content = a .content .now; connection = a .connection }) (a .message .now) (r .result) (r .ensures) Store (c .before .enum-told9 .given .1)))
+    refused-replies {right = MessageType} (a .out .now) (c .refused8 .ensures) (search needs) (ap (inRoom (length (a .out .now))) (answered-as (listing (a .listed .now) (a .count)) (view (a .table)) (record { own = a .own .now; content = a .content .now; connection = a .connection }) (a .message .now) (r .result) (r .ensures) Store (c .before .enum-told9 .given .1)))
 
 pub answered-spec : {M : Type 1} → statement M
 answered-spec =

@@ -2,17 +2,19 @@
 -- The measure is what is left of the count. Assumes nothing.
 use Prim.Native.Nat.{_-_}
 use native.Mathlib.Omega.{arith}
+use mathlib.Core.Path.{_≡_}
+use lib.ListN.{length}
 use borrow.Author.Needs.{needs}
 use borrow.Author.Tests.{not-true, not-false, eqb-true, eqb-false}
-use Rattle.snapshot.proofs.Turns.{Through, first-bad, first-good, line-bad, line-good, too-long, all-read, refused-at, accepted-as}
+use Rattle.snapshot.proofs.Turns.{Through, first-bad, first-good, line-bad, line-good, too-long, all-read, loads-bad, loads-all}
 use Rattle.snapshot.proofs.loading.load.Statement.{statement}
 use Rattle.snapshot.proofs.loading.load.Tie as tie
 
 abbrev Inv-loop : tie.InvT-loop
-Inv-loop index text node cap count next keys₀ last₀ i₀ keys last i = Through text node cap count keys last i
+Inv-loop text keys₀ node cap count first last₀ i₀ keys last i = Through text first node cap count keys last i × (length keys ≡ length keys₀)
 
 abbrev μ-loop : tie.MeasureT-loop
-μ-loop index text node cap count next keys₀ last₀ i₀ keys last i = count - i
+μ-loop text keys₀ node cap count first last₀ i₀ keys last i = count - i
 
 header-in-requires : tie.Need-header-in-requires Inv-loop μ-loop
 header-in-requires c κs = search needs
@@ -22,17 +24,14 @@ bad-line-requires c κs = search needs
 
 returns : tie.Need-returns Inv-loop μ-loop
 returns c =
-    let a = c .before .before .before .before .before .args in
-    refused-at (a .index) _ (a .text .now) _ 1 _ (c .bad-line .ensures) (search needs) (omega arith)
+    let a = c .before .before .before .before .before .before .args in
+    loads-bad (a .text .now) _ _ 1 (search needs) (omega arith)
     (first-bad (a .text .now) _ (c .before .before .before .header-in .ensures) (not-true _ (c .before .if1 .taken)))
-
-fresh-requires : tie.Need-fresh-requires Inv-loop μ-loop
-fresh-requires c κs = search needs
 
 loop-holds : tie.Need-loop-holds Inv-loop μ-loop
 loop-holds c =
     let a = c .before .before .before .before .before .before .before .args in
-    first-good (a .text .now) _ (c .before .before .before .before .before .header-in .ensures) (not-false _ (c .before .before .before .if1 .left)) _ _ (search needs)
+    (first-good (a .text .now) _ (c .before .before .before .before .header-in .ensures) (not-false _ (c .before .before .if1 .left)) _ _ (search needs), search needs)
 
 mul-key-line : tie.Need-mul-key-line Inv-loop μ-loop
 mul-key-line c = search needs
@@ -49,19 +48,19 @@ add-bad-line c = search needs
 bad-line-requires-2 : tie.Need-bad-line-requires-2 Inv-loop μ-loop
 bad-line-requires-2 c κs = search needs
 
+same-length : tie.Need-same-length Inv-loop μ-loop
+same-length c = search needs
+
 returns-2 : tie.Need-returns-2 Inv-loop μ-loop
 returns-2 c =
     let a = c .before .before .before .before .before .before .before .before .before .before .before .before .before .args in
     let at = c .before .before .before .before .before in
-    refused-at (a .index) _ (a .text .now) _ _ _ (c .bad-line2 .ensures) (search needs) (omega arith)
-    (line-bad _ _ _ _ _ _ _ (at .loop .inv) (c .before .before .before .before .loop-test .taken) _ _ (c .before .before .before .key-line .ensures)
+    loads-bad (a .text .now) _ _ _ (search needs) (omega arith)
+    (line-bad _ _ _ _ _ _ _ _ (at .loop .inv .0) (c .before .before .before .before .loop-test .taken) _ _ (c .before .before .before .key-line .ensures)
     (λ e. omega (arith, eqb-true)) (λ e. omega (arith, eqb-false)) (not-true _ (c .before .if2 .taken)))
 
 slice-aggregate-put : tie.Need-slice-aggregate-put Inv-loop μ-loop
 slice-aggregate-put c = search needs
-
-slice-aggregate-put-2 : tie.Need-slice-aggregate-put-2 Inv-loop μ-loop
-slice-aggregate-put-2 c = search needs
 
 mul-put : tie.Need-mul-put Inv-loop μ-loop
 mul-put c = search needs
@@ -77,10 +76,11 @@ loop-less c = search needs
 
 loop-again : tie.Need-loop-again Inv-loop μ-loop
 loop-again c =
-    let at = c .before .before .before .before .before .before .before .before .before .before in
-    line-good _ _ _ _ _ _ _ (at .loop .inv) (c .before .before .before .before .before .before .before .before .before .loop-test .taken) _ _ (c .before .before .before .before .before .before .before .before .key-line .ensures)
-    (λ e. omega (arith, eqb-true)) (λ e. omega (arith, eqb-false)) (not-false _ (c .before .before .before .before .before .before .if2 .left)) _
-    (c .before .put .ensures .1) (search needs)
+    let at = c .before .before .before .before .before .before .before .before .before .before .before in (
+      line-good _ _ _ _ _ _ _ _ (at .loop .inv .0) (c .before .before .before .before .before .before .before .before .before .before .loop-test .taken) _ _ (c .before .before .before .before .before .before .before .before .before .key-line .ensures)
+          (λ e. omega (arith, eqb-true)) (λ e. omega (arith, eqb-false)) (not-false _ (c .before .before .before .before .before .before .before .if2 .left)) _ (c .before .before .put .ensures .1) (search needs),
+      search needs,
+    )
 
 mul-if3 : tie.Need-mul-if3 Inv-loop μ-loop
 mul-if3 c = search needs
@@ -94,19 +94,24 @@ add-bad-line-2 c = search needs
 bad-line-requires-3 : tie.Need-bad-line-requires-3 Inv-loop μ-loop
 bad-line-requires-3 c κs = search needs
 
+same-length-2 : tie.Need-same-length-2 Inv-loop μ-loop
+same-length-2 c = search needs
+
 returns-3 : tie.Need-returns-3 Inv-loop μ-loop
 returns-3 c =
     let a = c .before .before .before .before .before .before .before .before .before .before .before .args in
     let at = c .before .before .before in
-    refused-at (a .index) _ (a .text .now) _ _ _ (c .bad-line3 .ensures) (search needs) (omega arith)
-    (too-long _ _ _ _ _ _ _ (at .loop .inv) (c .before .before .loop-test .left) (c .before .if3 .taken))
+    loads-bad (a .text .now) _ _ _ (search needs) (omega arith)
+    (too-long _ _ _ _ _ _ _ _ (at .loop .inv .0) (c .before .before .loop-test .left) (c .before .if3 .taken))
+
+same-length-3 : tie.Need-same-length-3 Inv-loop μ-loop
+same-length-3 c = search needs
 
 returns-4 : tie.Need-returns-4 Inv-loop μ-loop
 returns-4 c =
     let a = c .before .before .before .before .before .before .before .before .before .before .args in
     let at = c .before .before in
-    accepted-as (a .index) (a .text .now) _ _ _ _ _ (c .before .before .before .fresh .ensures)
-    (all-read _ _ _ _ _ _ _ (at .loop .inv) (c .before .loop-test .left) (c .if3 .left))
+    loads-all (a .text .now) _ _ (search needs) (all-read _ _ _ _ _ _ _ _ (at .loop .inv .0) (c .before .loop-test .left) (c .if3 .left))
 
 pub load-spec : {M : Type 1} → statement M
 load-spec =
@@ -117,16 +122,15 @@ load-spec =
     header-in-requires
     bad-line-requires
     returns
-    fresh-requires
     loop-holds
     mul-key-line
     add-key-line
     key-line-requires
     add-bad-line
     bad-line-requires-2
+    same-length
     returns-2
     slice-aggregate-put
-    slice-aggregate-put-2
     mul-put
     put-requires
     add-i
@@ -136,5 +140,7 @@ load-spec =
     add-if3
     add-bad-line-2
     bad-line-requires-3
+    same-length-2
     returns-3
+    same-length-3
     returns-4)

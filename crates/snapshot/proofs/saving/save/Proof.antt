@@ -7,10 +7,10 @@ use mathlib.Core.Bool.{true}
 use lib.ListN.{length}
 use borrow.Author.Needs.{needs}
 use borrow.Author.Tests.{not-true, not-false}
-use Rattle.key_index.specs.View.{view}
+use Rattle.key_index.specs.View.{keyLimit, view}
 use Rattle.key_index.specs.Good.{good}
 use Rattle.snapshot.specs.Text.{snapshotOf}
-use Rattle.snapshot.proofs.Writing.{Saving, header-as, few-keys, saved-length, saving-start, saving-next, saving-end, save-bad, save-short, save-written}
+use Rattle.snapshot.proofs.Writing.{Saving, few-keys, saved-length, saving-start, saving-next, saving-end, save-bad, save-short, save-written}
 use Rattle.snapshot.proofs.saving.save.Statement.{statement}
 use Rattle.snapshot.proofs.saving.save.Tie as tie
 
@@ -21,23 +21,30 @@ Inv-loop out₀ index count size i₀ out i =
 abbrev μ-loop : tie.MeasureT-loop
 μ-loop out₀ index count size i₀ out i = count - i
 
+abbrev start : tie.After-is-good Inv-loop μ-loop → tie.Start Inv-loop μ-loop
+start c = c .before .before .before .before .before .before .before
+
 node-size : (c : tie.Start Inv-loop μ-loop) → length (c .args .t1 .node) ≡ 32
 node-size c = search needs
 
 cap-size : (c : tie.Start Inv-loop μ-loop) → length (c .args .t1 .cap) ≡ 32
 cap-size c = search needs
 
-keys-size : (c : tie.Start Inv-loop μ-loop) → length (c .args .t1 .keys) ≡ 2160
+keys-size : (c : tie.Start Inv-loop μ-loop) → length (c .args .t1 .keys) ≡ 9 * keyLimit
 keys-size c = search needs
 
+-- what the test of the rules says
+tested : (c : tie.After-is-good Inv-loop μ-loop) → good keyLimit (view (start c .args .t1)) ≡ c .is-good .result
+tested c = sym (c .is-good .ensures)
+
 -- past the first test the index is good, and has few keys
-is-good : (c : tie.Else1 Inv-loop μ-loop) → good 240 (view (c .before .before .before .args .t1)) ≡ true
-is-good c = sym (c .before .is-good .ensures) ∙ not-false _ (c .if1 .left)
+is-good : (c : tie.Else1 Inv-loop μ-loop) → good keyLimit (view (start (c .before) .args .t1)) ≡ true
+is-good c = tested (c .before) ∙ not-false _ (c .if1 .left)
 
-few : (c : tie.Else1 Inv-loop μ-loop) → c .before .before .before .args .t1 .count ≤ 240
-few c = let i = c .before .before .before .args .t1 in few-keys 240 (i .node) (i .cap) (i .keys) (i .count) (is-good c)
+few : (c : tie.Else1 Inv-loop μ-loop) → start (c .before) .args .t1 .count ≤ keyLimit
+few c = let i = start (c .before) .args .t1 in few-keys keyLimit (i .node) (i .cap) (i .keys) (i .count) (is-good c)
 
-size : (c : tie.Start Inv-loop μ-loop) → c .args .t1 .count ≤ 240 → length (snapshotOf (view (c .args .t1))) ≡ 133 + 21 * c .args .t1 .count
+size : (c : tie.Start Inv-loop μ-loop) → c .args .t1 .count ≤ keyLimit → length (snapshotOf (view (c .args .t1))) ≡ 135 + 21 * c .args .t1 .count
 size c f =
     let i = c .args .t1 in
     saved-length (i .node) (i .cap) (i .keys) (i .count) (node-size c) (cap-size c) (omega (arith, keys-size c))
@@ -47,8 +54,8 @@ is-good-requires c κs = search needs
 
 returns : tie.Need-returns Inv-loop μ-loop
 returns c =
-    let a = c .before .before .before .args in
-    save-bad 240 (view (a .t1)) (a .out .now) (sym (c .before .is-good .ensures) ∙ not-true _ (c .if1 .taken))
+    let a = start (c .before) .args in
+    save-bad keyLimit (view (a .t1)) (a .out .now) (tested (c .before) ∙ not-true _ (c .if1 .taken))
 
 mul-size : tie.Need-mul-size Inv-loop μ-loop
 mul-size c =
@@ -62,25 +69,21 @@ add-size c =
 
 returns-2 : tie.Need-returns-2 Inv-loop μ-loop
 returns-2 c =
-    let a = c .before .before .before .before .args in
-    let f = few (c .before) in
-    let n = size (c .before .before .before .before) f in
-    save-short 240 (view (a .t1)) (a .out .now) (is-good (c .before)) (omega (arith, n, c .if2 .taken))
-
-cast-write-header : tie.Need-cast-write-header Inv-loop μ-loop
-cast-write-header c =
-    let f = few (c .before .before .before) in
-    search needs
+    let at = start (c .before .before) in
+    let n = size at (few (c .before)) in
+    save-short keyLimit (view (at .args .t1)) (at .args .out .now) (is-good (c .before)) (omega (arith, n, c .if2 .taken))
 
 write-header-requires : tie.Need-write-header-requires Inv-loop μ-loop
-write-header-requires c κs = search needs
+write-header-requires c κs =
+    let f = few (c .before .before .before .before) in
+    search needs
 
 loop-holds : tie.Need-loop-holds Inv-loop μ-loop
 loop-holds c =
-    let a = c .before .before .before .before .before .before .before .before .before .before .args in
-    let f = few (c .before .before .before .before .before .before .before) in (
-      saving-start (a .t1 .node) (a .t1 .cap) (a .t1 .keys) (a .t1 .count) (a .out .now) _ (node-size (c .before .before .before .before .before .before .before .before .before .before)) (cap-size (c .before .before .before .before .before .before .before .before .before .before))
-          (c .before .before .before .before .before .before .if2 .left) (header-as (a .t1 .node) (a .t1 .cap) _ (a .t1 .count) (a .out .now) (c .before .before .write-header .ensures) (search needs)) f (omega (arith, keys-size (c .before .before .before .before .before .before .before .before .before .before))),
+    let at = start (c .before .before .before .before .before .before .before .before) in
+    let i = at .args .t1 in (
+      saving-start (i .node) (i .cap) (i .keys) (i .count) (at .args .out .now) _ (node-size at) (cap-size at) (c .before .before .before .before .before .before .if2 .left)
+          (c .before .before .write-header .ensures) (few (c .before .before .before .before .before .before .before)) (omega (arith, keys-size at, few (c .before .before .before .before .before .before .before))),
       search needs,
     )
 
@@ -114,12 +117,14 @@ same-length c = search needs
 
 returns-3 : tie.Need-returns-3 Inv-loop μ-loop
 returns-3 c =
-    let a = c .before .before .before .before .before .before .before .before .before .before .before .before .args in
-    let f = few (c .before .before .before .before .before .before .before .before .before) in
-    let n = size (c .before .before .before .before .before .before .before .before .before .before .before .before) f in
-    save-written 240 (view (a .t1)) (a .out .now) (is-good (c .before .before .before .before .before .before .before .before .before)) (133 + 21 * a .t1 .count) n (c .before .before .before .before .before .before .before .before .if2 .left) _
-    (saving-end (a .t1 .node) (a .t1 .cap) (a .t1 .keys) (a .t1 .count) (a .out .now) _ (node-size (c .before .before .before .before .before .before .before .before .before .before .before .before)) (cap-size (c .before .before .before .before .before .before .before .before .before .before .before .before))
-    (c .before .before .before .before .before .before .before .before .if2 .left) (header-as (a .t1 .node) (a .t1 .cap) _ (a .t1 .count) (a .out .now) (c .before .before .before .before .write-header .ensures) (search needs)) _ _ (c .before .loop .inv .0) (c .loop-test .left))
+    let good = c .before .before .before .before .before .before .before .before .before in
+    let at = start (good .before) in
+    let i = at .args .t1 in
+    let n = size at (few good) in
+    let fits = c .before .before .before .before .before .before .before .before .if2 .left in
+    save-written keyLimit (view i) (at .args .out .now) (is-good good) (135 + 21 * i .count) n fits _
+    (saving-end (i .node) (i .cap) (i .keys) (i .count) (at .args .out .now) _ (node-size at) (cap-size at) fits
+    (c .before .before .before .before .write-header .ensures) _ _ (c .before .loop .inv .0) (c .loop-test .left))
 
 pub save-spec : {M : Type 1} → statement M
 save-spec =
@@ -132,7 +137,6 @@ save-spec =
     mul-size
     add-size
     returns-2
-    cast-write-header
     write-header-requires
     loop-holds
     key-at-requires

@@ -4,6 +4,12 @@ use borrow.Author.Needs.{needs}
 use Rattle.snapshot.proofs.saving.write_header.Statement.{statement}
 use Rattle.snapshot.proofs.saving.write_header.Tie as tie
 
+cast-low : tie.Need-cast-low
+cast-low c = search needs
+
+cast-high : tie.Need-cast-high
+cast-high c = search needs
+
 slice-aggregate-encode : tie.Need-slice-aggregate-encode
 slice-aggregate-encode c = search needs
 
@@ -34,19 +40,23 @@ slice-write-out c = search needs
 same-length : tie.Need-same-length
 same-length c =
     let a = c .before .before .before .before .before .before .before .before .before .before .before .before .before .before .before .before .before .before .before .before .before .args in
-    header-placed (a .t1) (a .t2) (a .count) (search needs) (search needs) (a .out .now) (search needs) (c .before .before .before .before .before .before .before .before .before .before .before .before .before .before .before .before .before .encode .ensures .1)
+    header-placed (a .t1) (a .t2) (a .count) (search needs) (search needs) (search needs) (a .out .now) (search needs)
+    (c .before .before .before .before .before .before .before .before .before .before .before .before .before .before .before .before .before .encode .ensures .1)
     (c .before .before .before .before .before .before .before .before .before .before .before .before .encode2 .ensures .1) (c .before .before .before .before .before .before .before .encode3 .ensures .1) (c .before .before .encode4 .ensures .1) .long
 
 returns : tie.Need-returns
 returns c =
     let a = c .before .before .before .before .before .before .before .before .before .before .before .before .before .before .before .before .before .before .before .before .before .args in
-    header-placed (a .t1) (a .t2) (a .count) (search needs) (search needs) (a .out .now) (search needs) (c .before .before .before .before .before .before .before .before .before .before .before .before .before .before .before .before .before .encode .ensures .1)
+    header-placed (a .t1) (a .t2) (a .count) (search needs) (search needs) (search needs) (a .out .now) (search needs)
+    (c .before .before .before .before .before .before .before .before .before .before .before .before .before .before .before .before .before .encode .ensures .1)
     (c .before .before .before .before .before .before .before .before .before .before .before .before .encode2 .ensures .1) (c .before .before .before .before .before .before .before .encode3 .ensures .1) (c .before .before .encode4 .ensures .1) .is
 
 pub write-header-spec : {M : Type 1} → statement M
 write-header-spec =
     tie.close
     (tie.spec
+    cast-low
+    cast-high
     slice-aggregate-encode
     encode-requires
     slice-aggregate-encode-2

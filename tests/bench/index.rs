@@ -70,12 +70,15 @@ struct Answer {
 
 // Content is taken for good here, as it is one byte.
 #[inline(never)]
-fn store(index: Index, key: &[u8; 9]) -> Answer {
+fn store(index: Index, key: &[u8; 9], newest: u64) -> Answer {
     if !good(&index) {
         return Answer { word: 0, index };
     }
     if key[0] > 1 {
         return Answer { word: 8, index };
+    }
+    if u64::from_le_bytes(key[1..].try_into().unwrap()) > newest {
+        return Answer { word: 17, index };
     }
     if find(&index, key).is_some() {
         return Answer { word: 11, index };
@@ -245,8 +248,8 @@ fn plain_many(call: u32, size: u32, at: u32, rounds: u32) -> u64 {
         let number = at % 65536 + i % 64;
         let index = black_box(&index);
         let n = match call {
-            0 => told(&black_box(store(*index, &key(1, number))), number),
-            1 => told(&black_box(store(*index, &key(0, number))), number),
+            0 => told(&black_box(store(*index, &key(1, number), number as u64)), number),
+            1 => told(&black_box(store(*index, &key(0, number), number as u64)), number),
             2 => told(&black_box(remove(*index, &key(0, number))), number),
             3 => told(&black_box(reload(*index, &text[..len])), number),
             _ => {

@@ -137,7 +137,7 @@ def no_calls(stream):
     good = distance_line(1, 3)
     lines = [b'help', b'help ', b'help help', b'Help', b'help -', b'', b' ', b'-', b'id', b'id ', b' id 00', b'id  00', b'id 00 ', b'id 00 00', b'id 0', b'id zz', b'ID 00', b'id\t00', b'id 0A', b'ids 00']
     lines += [b'distance', b'distance 00 00', good[:-1], good + b'0', good + b' ', good + b' 00', good.replace(b' ', b'  '), good.upper()]
-    lines += [b'fresh', b'fresh 00 00', b'store', b'store 00', b'store 00 00 00', b'store  -', b'remove', b'remove 00 00', b'radius ', b'radius 0', b'keys -', b'keys ']
+    lines += [b'fresh', b'fresh 00 00', b'store', b'store 00', b'store 00 00', b'store 00 00 00', b'store 00 00 0 0', b'store  -', b'store  - 0', b'remove', b'remove 00 00', b'radius ', b'radius 0', b'keys -', b'keys ']
     lines += [b'distance - -', b'interested - - -', b'interested ' + b'00' * 32, b'interested ' + b'00' * 33 + b' ' + b'00' * 31 + b' 00']
     lines += [b'id ' + b'00' * 32766, b'id ' + b'00' * 32767, b'id ' + b'0' * 65533, b'x' * 65536, b'x' * 65537, b' ' * 70000, good]
     for _ in range(200):

@@ -52,7 +52,7 @@ def four(word):
 
 def number(word, most):
     """A decimal number with no zero in front."""
-    if not word.isdigit() or len(word) > 5 or word != str(int(word)).encode() or int(word) > most:
+    if not word.isdigit() or len(word) > 20 or word != str(int(word)).encode() or int(word) > most:
         raise NoCall
     return int(word)
 
@@ -140,9 +140,8 @@ class Console:
         self.index = Index(value(node), value(cap))
         return 'ok'
 
-    def store(self, key, content):
-        key, content = data(key), data(content)
-        place, evicted = self.index.store(key, content)
+    def store(self, key, content, newest):
+        place, evicted = self.index.store(data(key), data(content), number(newest, 2**64 - 1))
         return 'stored %d %d' % place + ('' if evicted is None else ' evicted ' + evicted.hex())
 
     def remove(self, key):
@@ -225,7 +224,7 @@ class Console:
         b'write': (write, None),
         b'buffer': (buffer, 'N'),
         b'fresh': (fresh, 'NODE CAP'),
-        b'store': (store, 'KEY CONTENT'),
+        b'store': (store, 'KEY CONTENT NEWEST'),
         b'remove': (remove, 'KEY'),
         b'radius': (radius, ''),
         b'keys': (keys, ''),

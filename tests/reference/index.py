@@ -1,4 +1,4 @@
-"""The key index: the keys held, nearest first, with document 01's rules for storing, removing, saving and reloading, and document 02's wish 6."""
+"""The key index: the keys held, nearest first, with document 01's rules for storing, removing, saving and reloading, and document 02's wishes 6 and 7."""
 from bisect import bisect
 
 from history import Refused, digits, distance, key, key_id, unhex
@@ -22,9 +22,11 @@ class Index:
         """The cap, or the distance of the farthest key, which stands last, where the index is full."""
         return self.cap if len(self.keys) < LIMIT else self.away(self.keys[-1])
 
-    def store(self, data, content):
+    def store(self, data, content, newest):
         """Start and length of the payload, and the evicted key or None."""
-        key(data)
+        _, number = key(data)
+        if number > newest:
+            raise Refused(17)
         place = examine(content)
         if data in self.keys:
             raise Refused(11)

@@ -1,10 +1,12 @@
-"""Calls on the index: the full case of document 01 as wish 6 has it, caps at the edge, removals at every place, content of every kind, and long random runs."""
+"""Calls on the index: the full case of document 01 as wish 6 has it, caps at the edge, removals at every place, content of every kind, numbers on each side
+of the newest known block, and long random runs."""
 from content_cases import content_edges
 from history import digits, distance, key_id, make_key
 from index import LIMIT, Index
 from stream import Stream
 
 ONES = 2**256 - 1
+LARGEST = 2**64 - 1
 EMPTY, WHOLE = b'\xc0', b'\xf8\x38' + bytes(56)
 # the limit of the old kind of saved text, at which nothing happens now
 OLD_LIMIT = 240
@@ -18,8 +20,13 @@ def fresh(node, cap):
     return 'fresh %s %s' % (digits(node), digits(cap))
 
 
-def store(key, content=EMPTY):
-    return 'store %s %s' % (word(key), word(content))
+def number_of(key):
+    return int.from_bytes(key[1:9], 'little')
+
+
+def store(key, content=EMPTY, newest=None):
+    """A store call. The newest known block is the key's own, if no other is named."""
+    return 'store %s %s %d' % (word(key), word(content), number_of(key) if newest is None else newest)
 
 
 def remove(key):
@@ -100,14 +107,14 @@ def full_removals(stream):
 
 
 def refusals(stream):
-    """Every refusal, and pairs of faults: 7, 8, 16, 9, 11, 10 in that order when storing."""
+    """Every refusal, and pairs of faults: 7, 8, 17, 16, 9, 11, 10 in that order when storing."""
     held, far = make_key(0, 5), make_key(1, 6)
     node = key_id(held)
     lines = [fresh(node, 0), store(held, WHOLE)]
     keys = [held, far, make_key(0, 7), b'', held[:8], held + b'\0', b'\2' + held[1:], b'\xff' + far[1:], stream.take(40)]
     for key in keys:
         for content in (EMPTY, WHOLE, b'', b'\xc1', b'\xf8\0', b'\0'):
-            lines.append(store(key, content))
+            lines += [store(key, content, newest) for newest in (None, 4, 0)]
         lines.append(remove(key))
     return lines + SHOW + [store(held)] + SHOW
 
@@ -128,6 +135,64 @@ def full_places():
     return lines + [store(make_key(0, 65535), content) for content in edges[:12] + [EMPTY, WHOLE, b'']]
 
 
+def newest_edges():
+    """Numbers one below, at and one above the newest known block, both selectors, at the edges of every byte."""
+    lines, low = [fresh(0, ONES)], [0, 1, 2, 254, 255, 12345678]
+    edges = sorted(set(low + [2**bits + by for bits in (8, 16, 24, 32, 40, 48, 56, 63) for by in (-1, 0, 1)] + [LARGEST - n for n in low]))
+    for newest in edges:
+        for number in (newest + 1, newest, newest - 1):
+            lines += [store(make_key(selector, number), EMPTY, newest) for selector in (0, 1) if 0 <= number <= LARGEST]
+    lines += SHOW
+    # one byte of the number over one byte of the newest, and the bytes in the other order
+    for i in range(8):
+        for j in range(8):
+            lines.append(store(make_key(i % 2, 3 << 8 * i), EMPTY, 2 << 8 * j))
+    return lines + SHOW
+
+
+def newest_words():
+    """Words that are a newest block number, and that are none."""
+    key = make_key(1, 7)
+    words = ['0', '6', '7', '8', '10', '65536', '100000', str(LARGEST), str(2**63)]
+    bad = ['', '-', '-1', '+7', '00', '07', '0x7', '7a', 'a7', '7.', ':', '/', '7 ', ' 7', '7 7', str(LARGEST + 1), str(LARGEST + 5), str(LARGEST * 10), '99999999999999999999']
+    bad += ['2' * n for n in (21, 39, 100)] + ['1' + '0' * n for n in (20, 300, 5000)] + ['0' * 20, '0' + str(LARGEST)]
+    lines = [fresh(0, ONES)]
+    for found in words + bad:
+        lines += ['store %s c0 %s' % (key.hex(), found), remove(key)]
+    return lines + ['store %s c0' % key.hex(), 'keys']
+
+
+def near_number(node, place):
+    """The block number whose id begins as the node id does, but for one of the lightest of its eight bytes' bits."""
+    top = (node >> 192) ^ place
+    return int(format(top % 2**48, '048b')[::-1], 2) << 16 | top >> 48
+
+
+def crowded(stream):
+    """A member's case: a full index of known blocks is offered blocks that do not exist, picked to lie near the node id."""
+    newest, index = 25_000_000, Index(int.from_bytes(stream.take(32), 'big') | 1 << 192, ONES)
+    known = set()
+    while len(known) < LIMIT:
+        known.add(make_key(stream.below(2), stream.below(newest + 1)))
+    index.keys = sorted(known, key=index.away)
+    near = [make_key(stream.below(2), near_number(index.node, 2 * n)) for n in range(40)]
+    lines = [load(index.save()), 'radius'] + [store(key, EMPTY, newest) for key in near] + ['radius'] + [store(key, EMPTY, newest) for key in index.keys[-3:]]
+    # a known block is stored as before, and evicts the farthest
+    new = min((make_key(0, stream.below(newest)) for _ in range(300)), key=index.away)
+    lines += [store(new, EMPTY, newest), 'radius']
+    # named as known the others are taken in; held, they are refused with 17 before 11 where they are named unknown, and can be removed
+    lines += [store(key, EMPTY, LARGEST) for key in near[:3]] + ['radius'] + [store(key, EMPTY, n) for key in near[:3] for n in (newest, LARGEST)]
+    return lines + [remove(key) for key in near[:3]] + ['radius', store(near[0], EMPTY, newest), store(new, EMPTY, newest), store(new, EMPTY, 0)]
+
+
+def reloaded_future():
+    """A reload asks nothing of a number: the keys that it brings stay, whatever later calls name."""
+    index = Index(0, ONES)
+    index.keys = [make_key(0, 5), make_key(1, 5), make_key(0, LARGEST)]
+    lines = [load(index.save()), 'keys', store(make_key(0, LARGEST), EMPTY, 5), store(make_key(1, LARGEST), EMPTY, 5), store(make_key(1, 6), EMPTY, 5)]
+    return lines + [store(make_key(0, 4), EMPTY, 5), 'keys', remove(make_key(0, LARGEST)), store(make_key(0, LARGEST), EMPTY, 5), 'keys']
+
+
 def random_run(stream, calls, pool, node, cap):
     """Stores and removals of keys from a pool, small or large, with something wrong now and then. The keys of a large index are shown at the end only."""
     lines = [fresh(node, cap)]
@@ -135,7 +200,7 @@ def random_run(stream, calls, pool, node, cap):
     for _ in range(calls):
         key, dice = stream.pick(keys), stream.below(20)
         if dice < 12:
-            lines.append(store(key, EMPTY if dice else b''))
+            lines.append(store(key, EMPTY if dice else b'', max(0, number_of(key) + stream.below(8) - 1)))
         elif dice < 19:
             lines.append(remove(key))
         else:
@@ -180,10 +245,10 @@ def index_lines(stream):
     for pool in (2, 6, 40):
         lines += random_run(stream, 300, pool, int.from_bytes(stream.take(32), 'big'), ONES >> stream.below(3))
     lines += growing_run(stream) + random_run(stream, 1200, 600, int.from_bytes(stream.take(32), 'big'), ONES >> 1)
-    return [line.encode() for line in lines + places()]
+    return [line.encode() for line in lines + places() + newest_edges() + newest_words() + reloaded_future()]
 
 
 def full_lines():
     """Calls on full indexes."""
     stream = Stream('full')
-    return [line.encode() for line in full_removals(stream) + full_run(stream) + full_places() + full_case()]
+    return [line.encode() for line in full_removals(stream) + full_run(stream) + crowded(stream) + full_places() + full_case()]

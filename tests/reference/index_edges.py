@@ -38,8 +38,8 @@ def lines(name, cap, count, keys):
     yield name
     yield '  radius ' + tell(lambda: digits(index.radius()))
     yield '  holds body 1: ' + tell(lambda: 'yes' if FIRST in index.keys else 'no')
-    for name, content in (('', b'\xc0'), (', content cut off', b'\xc1')):
-        yield '  store body 0%s: ' % name + tell(lambda: 'stored %d %d' % index.store(bytes(9), content)[0], True)
+    for name, key, content in (('0', bytes(9), b'\xc0'), ('0, content cut off', bytes(9), b'\xc1'), ('1, not known yet, content cut off', FIRST, b'\xc1')):
+        yield '  store body %s: ' % name + tell(lambda: 'stored %d %d' % index.store(key, content, 0)[0], True)
         index = made()
     yield '  remove body 1: ' + tell(lambda: index.remove(FIRST) or 'removed', True)
     index = made()

@@ -256,7 +256,7 @@ def anew(stream):
     # an id that was ours is an id like any other
     other = ids.at(201)
     lines += [table(other), ids.seen(other), ids.seen(ids.own), entry(ids.own), failed(ids.own)] + SHOW
-    lines += ['fresh %s %s' % (digits(7), digits(ONES)), 'store 000000000000000000 c0'] + SHOW + [table(other), 'keys'] + SHOW
+    lines += ['fresh %s %s' % (digits(7), digits(ONES)), 'store 000000000000000000 c0 0'] + SHOW + [table(other), 'keys'] + SHOW
     return lines
 
 

@@ -200,7 +200,7 @@ fn buffer(state: State, line: &[u8], words: Words, out: &mut [u8]) -> Answered {
         return Answered { state, len };
     }
     let mut next = state;
-    next.room = room.value;
+    next.room = room.value as usize;
     let len = answer::text(out, 0, b"ok\n");
     Answered { state: next, len }
 }

@@ -16,7 +16,7 @@ pub fn help(words: Words, out: &mut [u8]) -> usize {
     let index = answer::text(
         out,
         messages,
-        b"fresh NODE CAP; store KEY CONTENT; remove KEY; radius; keys; save; load TEXT; ",
+        b"fresh NODE CAP; store KEY CONTENT NEWEST; remove KEY; radius; keys; save; load TEXT; ",
     );
     let table = answer::text(
         out,

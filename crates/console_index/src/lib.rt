@@ -39,7 +39,7 @@ pub fn fresh(index: KeyIndex, line: &[u8], words: Words, out: &mut [u8]) -> Repl
     Reply { index: made, len }
 }
 
-// store KEY CONTENT
+// store KEY CONTENT NEWEST
 pub fn store(
     index: KeyIndex,
     line: &[u8],
@@ -48,7 +48,8 @@ pub fn store(
     spare: &mut [u8],
     out: &mut [u8],
 ) -> Reply {
-    if words.count != 3 {
+    let newest = words::number(words::word(line, words, 3));
+    if words.count != 4 || !newest.good {
         return no_call(index, out);
     }
     let Decoded::Bytes(n) = words::bytes(words::word(line, words, 1), spare) else {
@@ -57,11 +58,17 @@ pub fn store(
     let Decoded::Bytes(m) = words::bytes(words::word(line, words, 2), data) else {
         return no_call(index, out);
     };
-    put(index, words::front(spare, n), words::front(data, m), out)
+    put(
+        index,
+        words::front(spare, n),
+        words::front(data, m),
+        newest.value,
+        out,
+    )
 }
 
-fn put(index: KeyIndex, key: &[u8], content: &[u8], out: &mut [u8]) -> Reply {
-    let done = key_store::store(index, key, content);
+fn put(index: KeyIndex, key: &[u8], content: &[u8], newest: u64, out: &mut [u8]) -> Reply {
+    let done = key_store::store(index, key, content, newest);
     let next = done.index;
     let evicted = done.evicted;
     let how = done.stored;

@@ -142,10 +142,10 @@ pub fn four(word: &[u8]) -> Bytes4 {
     }
 }
 
-// A number of at most five decimal digits, with no zero in front.
+// A decimal number of 64 bits, with no zero in front.
 pub struct Decimal {
     pub good: bool,
-    pub value: usize,
+    pub value: u64,
 }
 
 pub fn number(word: &[u8]) -> Decimal {
@@ -153,7 +153,7 @@ pub fn number(word: &[u8]) -> Decimal {
         good: false,
         value: 0,
     };
-    if word.len() == 0 || 5 < word.len() {
+    if word.len() == 0 {
         return no;
     }
     if word[0] == b'0' {
@@ -161,13 +161,17 @@ pub fn number(word: &[u8]) -> Decimal {
             return no;
         }
     }
-    let mut value = 0usize;
+    let mut value = 0u64;
     for i in 0..word.len() {
         let c = word[i];
         if c < b'0' || b'9' < c {
             return no;
         }
-        value = value % 100000 * 10 + octets::wide(c - b'0');
+        let digit = octets::wide(c - b'0') as u64;
+        if (u64::MAX - digit) / 10 < value {
+            return no;
+        }
+        value = value * 10 + digit;
     }
     Decimal { good: true, value }
 }

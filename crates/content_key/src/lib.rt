@@ -1,7 +1,7 @@
-// Content keys of the History Network: a key from any bytes, its content id, and the interest test.
+// Content keys of the History Network: a key from any bytes, its block number, its content id, and the interest test.
 ghost use mathlib.Core.Path.{_≡_};
 ghost use Rattle.refusal.specs.Outcome.{outcome, orZeros};
-ghost use Rattle.content_key.specs.Key.{keyOf, keyId, contentIdOf, interestedIn, interestOf};
+ghost use Rattle.content_key.specs.Key.{blockOf, keyOf, keyId, contentIdOf, interestedIn, interestOf};
 use refusal::Checked;
 use refusal::Refusal;
 
@@ -47,6 +47,15 @@ pub fn key(bytes: &[u8]) -> KeyAnswer
         checked: Checked::Accepted,
         key,
     }
+}
+
+// The block number of a key: the eight bytes after the selector, lightest first.
+pub fn block(key: [u8; 9]) -> u64
+    ensures { λ r. ⌜ r ≡ blockOf key ⌝ }
+{
+    let low = octets::le4(octets::part4(&key, 1));
+    let high = octets::le4(octets::part4(&key, 5));
+    (low + 4294967296 * high) as u64
 }
 
 // The content id of a key: the two lightest bytes of the block number, heavier one first, then its six others, lightest first, each

@@ -71,8 +71,8 @@ reload-said index (Refused why) = refl
 
 -- a call that is answered as its contract says is a step: its view, and what it says
 pub answered-step : {index after : KeyIndex} {c : Call box} {a : Answer box} → Answered index c after a → step (viewed index) c ≡ (viewed after, a)
-answered-step {index} (storing {raw = raw} {content = content} r e) =
-    store-by index (storeOf keyLimit (view index) (raw .bytes) content) ∙ ap storeDoes (sym e) ∙ store-said r (r .stored)
+answered-step {index} (storing {raw = raw} {brought = brought} r e) =
+    store-by index (storeOf keyLimit (view index) (raw .bytes) (brought .content) (brought .newest)) ∙ ap storeDoes (sym e) ∙ store-said r (r .stored)
 answered-step {index} (removing {raw = raw} r e) =
     remove-by index (removeOf keyLimit (view index) (raw .bytes)) ∙ ap removeDoes (sym e) ∙ remove-said (r .index) (r .checked)
 answered-step {index} (reloading {text = text} r e) =

@@ -18,10 +18,12 @@ use Rattle.demands.proofs.Plainly.{plainly}
 -- 1. The index lists 3,000 keys at most, all different, strictly nearest first, each within the announced radius, and gives no 0: `inOrder`, `noZero`.
 -- 2. Its node id and ceiling are those of the last accepted reload, or of the fresh shelf: `ownerFresh`, `ownerReloaded`.
 -- 3. A stretch, any part of the list with no accepted removal or reload in it, ends with exactly the 3,000 nearest of the keys held at its
---    start and those presented in it with acceptable content and within the ceiling, each counted once: `nearest`.
+--    start and those presented in it with acceptable content and within the ceiling, each counted once: `nearest`. A key counts as presented
+--    only where its number was at most the newest that its call named.
 -- 4. Two stretches, of one list or of two, that start with the same shelf and present the same set of such keys, in any order and with any
 --    repeats, end with the same keys in the same places: `alike`.
--- 5. A key not held, with acceptable content, is kept exactly when its distance is at most the radius announced just before: `accepts`.
+-- 5. A key not held, with acceptable content and a number of at most the newest that its call names, is kept exactly when its distance is at
+--    most the radius announced just before: `accepts`.
 -- 6. From each accepted reload until the next, the keys held just after it plus the stores accepted since equal the keys held now plus those
 --    turned out and those removed since, all counted from the answers; a fresh shelf counts as a reload: `counts`.
 -- 7. An accepted store names a key as turned out exactly when one left, and names that one; nothing else leaves: `evicts`.

@@ -2,25 +2,27 @@
 -- text has number 0. Assumes nothing.
 use Prim.Native.Nat.{ℕ, _<_}
 use native.Mathlib.Omega.{arith}
-use mathlib.Core.Path.{_≡_, refl, sym, ap, subst}
+use mathlib.Core.Path.{_≡_, refl, sym, ap, subst, _∙_}
 use mathlib.Core.Bool.{Bool, true, false, cond}
 use mathlib.Core.Logic.{_↔_, _⊎_, inl, inr}
 use mathlib.Core.List.{List}
 use mathlib.Core.Option.{some}
 use lib.Dec.{eqb, leb}
 use lib.ListN.{length}
-use borrow.Author.Tests.{eqb-true, leb-true}
+use borrow.Author.Tests.{eqb-true, leb-true, leb-false}
 use Rattle.refusal.specs.Says.{Said, only, atLine, numberIn}
 use Rattle.refusal.specs.Outcome.{Outcome, given, refusal, refused}
-use Rattle.content_key.specs.Key.{selectorOf, keyOf}
+use Rattle.content_key.specs.Key.{selectorOf, blockOf, keyOf}
 use Rattle.rlp.specs.Content.{contentOf}
 use Rattle.rlp.specs.declared.Payload.{Payload}
 use Rattle.rlp.proofs.Contents.{refused-by}
 use Rattle.runs.specs.Setting.{Laws}
 use Rattle.key_index.specs.Good.{awayFrom}
+use Rattle.key_store.specs.Store.{examineOf}
 use Rattle.key_store.proofs.Facts.{away-inj}
+use Rattle.key_store.proofs.Answers.{examine-future, examine-known}
 use Rattle.snapshot.specs.Load.{Loading, badLine, loaded, loadOf}
-use Rattle.demands.specs.Box.{Owner, ValidOwner, ValidKey, Raw, keyFrom, faultIn, faultOf, viewIn, textFrom}
+use Rattle.demands.specs.Box.{Owner, ValidOwner, ValidKey, Raw, Brought, keyFrom, faultIn, faultOf, viewIn, textFrom}
 use Rattle.demands.specs.Setting.{box}
 
 -- keys are equal exactly when they are at one distance
@@ -58,16 +60,28 @@ key-number raw r e = go (eqb (length (raw .bytes)) 9) (leb (selectorOf (raw .byt
     go false t f = let z : only 7 ≡ r = cc in rw (sym z) (omega arith)
 
 -- content by 16 or 9
-fault-number : (content : List ℕ) (r : Said) → faultOf content ≡ some r → 0 < numberIn r
-fault-number content r e = go (contentOf content) refl e
+content-number : (content : List ℕ) (r : Said) → contentOf content ≡ refusal r → 0 < numberIn r
+content-number content r e = number (refused-by content r e)
   where
-    number : (says : Said) → (says ≡ only 16) ⊎ (says ≡ only 9) → 0 < numberIn says
-    number says (inl n) = rw n (omega arith)
-    number says (inr n) = rw n (omega arith)
+    number : (r ≡ only 16) ⊎ (r ≡ only 9) → 0 < numberIn r
+    number (inl n) = rw n (omega arith)
+    number (inr n) = rw n (omega arith)
 
-    go : (o : Outcome Payload) → contentOf content ≡ o → faultIn o ≡ some r → 0 < numberIn r
+-- a key with its content by 17 before that
+examine-number : (key content : List ℕ) (newest : ℕ) (r : Said) → examineOf key content newest ≡ refusal r → 0 < numberIn r
+examine-number key content newest r e = go (leb (blockOf key) newest) refl
+  where
+    go : (t : Bool) → leb (blockOf key) newest ≡ t → 0 < numberIn r
+    go true t = content-number content r (sym (examine-known key content newest (leb-true (blockOf key) newest t)) ∙ e)
+    go false t =
+        let z : only 17 ≡ r = cc (sym (examine-future key content newest (leb-false (blockOf key) newest t)) ∙ e) in rw (sym z) (omega arith)
+
+fault-number : (key : List ℕ) (brought : Brought) (r : Said) → faultOf key brought ≡ some r → 0 < numberIn r
+fault-number key brought r e = go (examineOf key (brought .content) (brought .newest)) refl e
+  where
+    go : (o : Outcome Payload) → examineOf key (brought .content) (brought .newest) ≡ o → faultIn o ≡ some r → 0 < numberIn r
     go (given payload) c f = let z : _≡_ {A = ℕ} 0 1 = cc in absurd (omega arith)
-    go (refusal says) c f = let z : says ≡ r = cc in rw (sym z) (number says (refused-by content says c))
+    go (refusal says) c f = let z : says ≡ r = cc in rw (sym z) (examine-number key (brought .content) (brought .newest) says c)
 
 -- a text by 14
 text-number : (text : List ℕ) (r : Said) → textFrom text ≡ refusal r → 0 < numberIn r
@@ -83,6 +97,6 @@ laws = record {
   same-distance = same-distance;
   keyIn-valid = λ o raw k e. key-is raw k e .1;
   keyIn-number = λ o raw r e. key-number raw r e;
-  fault-number = λ o k content r e. fault-number content r e;
+  fault-number = λ o k brought r e. fault-number k brought r e;
   textIn-number = text-number;
 }

@@ -20,13 +20,14 @@ use Rattle.key_index.specs.Calls.{isHeld}
 use Rattle.key_store.specs.Store.{Storing}
 use Rattle.key_store.specs.Cases as case
 use Rattle.key_store.specs.Cases.{Asked, Fresh, Stores}
+use Rattle.key_store.proofs.Answers.{examine-future, examine-known}
 use Rattle.key_store.proofs.Cases.{store-cases}
 use Rattle.key_remove.specs.Remove.{Removing, removeOf}
 use Rattle.key_remove.proofs.Cases.{remove-no-key, remove-absent, remove-held}
 use Rattle.key_remove.proofs.Without.{without-split}
 use Rattle.snapshot.specs.Load.{Loading, badLine, loaded, loadOf}
 use Rattle.snapshot.proofs.Forms.{accepted-good}
-use Rattle.demands.specs.Box.{Raw, grouped, spread, faultIn, viewIn}
+use Rattle.demands.specs.Box.{Raw, Brought, grouped, spread, faultIn, viewIn}
 use Rattle.demands.specs.Setting.{box}
 use Rattle.demands.specs.Step.{afterStore, afterRemove, afterReload, step}
 use Rattle.demands.proofs.Laws.{laws}
@@ -37,35 +38,44 @@ abbrev pub Does : View box → Call box → View box × Answer box → Type 0
 Does v c after = Done box v c (after .0) (after .1)
 
 module _ (v : View box) (g : Good box v) where
-  module _ (raw : Raw) (content : List ℕ) where
+  module _ (raw : Raw) (brought : Brought) where
     -- what storing knows of its key, in the terms of `runs`: it is admitted, new, taken
-    asked : {payload : Payload} → Asked keyLimit (spread v) (raw .bytes) content payload → Admitted box (v .owner) raw content (raw .bytes)
+    asked : {payload : Payload} → Asked keyLimit (spread v) (raw .bytes) (brought .content) (brought .newest) payload → Admitted box (v .owner) raw brought (raw .bytes)
     asked {payload} a =
-        admitted-iff (v .owner) raw content (raw .bytes) .1
-        (refl, (record { nine = record { size = a .size; bytes = raw .each }; selector = a .selector }, (payload, a .listed)))
+        admitted-iff (v .owner) raw brought (raw .bytes) .1 (
+          record {
+            bytes = refl;
+            valid = record { nine = record { size = a .size; bytes = raw .each }; selector = a .selector };
+            acceptable = (payload, a .listed);
+          },
+          a .known,
+        )
 
     new : Fresh (spread v) (raw .bytes) → ¬ Held box v (raw .bytes)
     new f h = f .out (held-iff box v equal (raw .bytes) .0 h)
 
-    taken : {payload : Payload} → Asked keyLimit (spread v) (raw .bytes) content payload → Fresh (spread v) (raw .bytes) → awayFrom (v .owner .node) (raw .bytes) ≤ radius box v
-        → Taken box v raw content (raw .bytes)
+    taken : {payload : Payload} → Asked keyLimit (spread v) (raw .bytes) (brought .content) (brought .newest) payload → Fresh (spread v) (raw .bytes) → awayFrom (v .owner .node) (raw .bytes) ≤ radius box v
+        → Taken box v raw brought (raw .bytes)
     taken a f h = record { admitted = asked a; new = new f; near = h }
 
     -- each case of storing is an outcome
-    store-case : {s : Storing} → Stores keyLimit (spread v) (raw .bytes) content s
-        → Does v (store raw content) (afterStore v s)
+    store-case : {s : Storing} → Stores keyLimit (spread v) (raw .bytes) (brought .content) (brought .newest) s
+        → Does v (store raw brought) (afterStore v s)
     store-case (case.bad h) = absurd (true≢false (sym (good-passes v g) ∙ h))
     store-case (case.no-length h l) = refusing (noKey (key-length (raw .bytes) l))
     store-case (case.no-selector h l s) = refusing (noKey (key-selector (raw .bytes) l s))
-    store-case (case.no-content h l s t) = refusing (unfit (key-given (raw .bytes) l s) (ap faultIn t))
+    store-case (case.future h l s n) =
+        refusing (unfit (key-given (raw .bytes) l s) (ap faultIn (examine-future (raw .bytes) (brought .content) (brought .newest) n)))
+    store-case (case.no-content h l s n t) =
+        refusing (unfit (key-given (raw .bytes) l s) (ap faultIn (examine-known (raw .bytes) (brought .content) (brought .newest) n ∙ t)))
     store-case (case.held a m) = refusing (held (asked a) m)
     store-case (case.beyond a f h) = refusing (beyond (asked a) (new f) (omega (arith, radius-is v)))
     store-case (case.room a f h w) = storing (taken a f (omega (arith, radius-room laws v h))) h
     store-case (case.full a f h front e w) =
         evicting-offer laws g (taken a f (omega (arith, radius-full laws v front (lastOf (v .keys)) (omega arith) e))) front (lastOf (v .keys)) h e
 
-    store-done : Does v (store raw content) (step v (store raw content))
-    store-done = store-case (store-cases keyLimit (spread v) (raw .bytes) content (omega arith) (good-bytes v g) (raw .each))
+    store-done : Does v (store raw brought) (step v (store raw brought))
+    store-done = store-case (store-cases keyLimit (spread v) (raw .bytes) (brought .content) (brought .newest) (omega arith) (good-bytes v g) (raw .each))
 
   -- so is each case of removing
   module _ (raw : Raw) where
@@ -101,7 +111,7 @@ module _ (v : View box) (g : Good box v) where
 
 -- every call does one of these
 pub does : (v : View box) (c : Call box) → Good box v → Does v c (step v c)
-does v (store raw content) g = store-done v g raw content
+does v (store raw brought) g = store-done v g raw brought
 does v (remove raw) g = remove-case v g raw (keyOf (raw .bytes)) refl
 does v (reload text) g = reload-done v g text
 

@@ -12,9 +12,8 @@ use mathlib.Core.List.{List}
 use lib.ListN.{length}
 use Rattle.octets.specs.Bytes.{be}
 use Rattle.refusal.specs.Outcome.{Outcome, given, refusal}
-use Rattle.content_key.specs.Key.{selectorOf, keyOf}
+use Rattle.content_key.specs.Key.{selectorOf, blockOf, keyOf}
 use Rattle.content_key.proofs.Keys.{key-given}
-use Rattle.rlp.specs.Content.{contentOf}
 use Rattle.rlp.specs.declared.Payload.{Payload}
 use Rattle.runs.specs.Views.{View, Good, radius, Gives}
 use Rattle.runs.specs.Done.{Admitted}
@@ -24,37 +23,45 @@ use Rattle.key_index.specs.Good.{awayFrom, good, lastOf, radiusOf}
 use Rattle.key_index.specs.Keys.{NineBytes}
 use Rattle.key_index.proofs.Each.{each-member, each-all}
 use Rattle.key_index.proofs.Rules.{good-facts, facts-good}
+use Rattle.key_store.specs.Store.{examineOf}
 use Rattle.key_store.specs.Cases.{OfBytes}
+use Rattle.key_store.proofs.Answers.{examine-known, examined-given}
 use Rattle.key_store.proofs.Facts.{sorted-near, near-sorted, last-apart, reach-room, reach-full}
 use Rattle.snapshot.specs.Load.{Loading, badLine, loaded, loadOf}
 use Rattle.snapshot.specs.Shape.{Shaped, Saved}
 use Rattle.snapshot.proofs.Forms.{accepted-iff, accepted-good}
-use Rattle.demands.specs.Box.{Owner, ValidKey, Raw, grouped, spread, faultIn, viewIn}
+use Rattle.demands.specs.Box.{Owner, Raw, Brought, grouped, spread, faultIn, viewIn}
 use Rattle.demands.specs.Setting.{box}
+use Rattle.demands.specs.Plainly.{Brings}
 use Rattle.demands.proofs.Laws.{key-is, laws}
 
 -- keys count as one where they are equal
 pub equal : (j k : List ℕ) → (j ≡ k) ↔ (j ≡ k)
 equal j k = (λ e. e, λ e. e)
 
--- a store call presents a key with acceptable content: the bytes are that key, nine with a selector of 0 or 1, and the content is acceptable
-pub admitted-iff : (o : Owner) (raw : Raw) (content k : List ℕ)
-    → Admitted box o raw content k ↔ ((raw .bytes ≡ k) × (ValidKey k × ((payload : Payload) × (contentOf content ≡ given payload))))
-admitted-iff o raw content k = (to, from)
+-- a key is admitted exactly in a store call that brings it with acceptable content and names a newest number that is not below its own
+pub admitted-iff : (o : Owner) (raw : Raw) (brought : Brought) (k : List ℕ)
+    → Admitted box o raw brought k ↔ (Brings raw brought k × (blockOf k ≤ brought .newest))
+admitted-iff o raw brought k = (to, from)
   where
-    passed : (x : Outcome Payload) → contentOf content ≡ x → faultIn x ≡ none → (payload : Payload) × (contentOf content ≡ given payload)
+    passed : (x : Outcome Payload) → examineOf k (brought .content) (brought .newest) ≡ x → faultIn x ≡ none
+        → (payload : Payload) × (examineOf k (brought .content) (brought .newest) ≡ given payload)
     passed (given payload) e f = (payload, e)
     passed (refusal says) e f = let z : _≡_ {A = ℕ} 0 1 = cc in absurd (omega arith)
 
-    to : Admitted box o raw content k → (raw .bytes ≡ k) × (ValidKey k × ((payload : Payload) × (contentOf content ≡ given payload)))
-    to a = let is = key-is raw k (a .presented) in (is .0, (is .1, passed (contentOf content) refl (a .acceptable)))
+    to : Admitted box o raw brought k → Brings raw brought k × (blockOf k ≤ brought .newest)
+    to a =
+        let is = key-is raw k (a .presented) in
+        let p = passed (examineOf k (brought .content) (brought .newest)) refl (a .acceptable) in
+        let q = examined-given k (brought .content) (brought .newest) (p .0) (p .1) in
+        (record { bytes = is .0; valid = is .1; acceptable = (p .0, q .1) }, q .0)
 
-    from : (raw .bytes ≡ k) × (ValidKey k × ((payload : Payload) × (contentOf content ≡ given payload))) → Admitted box o raw content k
+    from : Brings raw brought k × (blockOf k ≤ brought .newest) → Admitted box o raw brought k
     from h =
-        let valid = h .1 .0 in
+        let b = h .0 in
         record {
-          presented = ap keyOf (h .0) ∙ key-given k (valid .nine .size) (valid .selector);
-          acceptable = ap faultIn (h .1 .1 .1);
+          presented = ap keyOf (b .bytes) ∙ key-given k (b .valid .nine .size) (b .valid .selector);
+          acceptable = ap faultIn (examine-known k (brought .content) (brought .newest) (h .1) ∙ b .acceptable .1);
         }
 
 module _ (v : View box) where

@@ -15,7 +15,7 @@ use Rattle.key_remove.specs.Answer as removes
 use Rattle.key_remove.specs.declared.RemoveAnswer.{RemoveAnswer}
 use Rattle.snapshot.specs.Calls as reloads
 use Rattle.snapshot.specs.declared.ReloadAnswer.{ReloadAnswer}
-use Rattle.demands.specs.Box.{Raw, grouped}
+use Rattle.demands.specs.Box.{Raw, Brought, grouped}
 use Rattle.demands.specs.Setting.{box}
 
 -- the view of an index of the code
@@ -35,8 +35,9 @@ checkSays word (Refused why) = refused (saysOf why)
 
 -- index, call, the index in the answer, what the answer says: the answer meets the contract of the call
 pub data Answered (index : KeyIndex) : Call box → KeyIndex → Answer box → Type 0 where
-  storing : {raw : Raw} {content : List ℕ} (r : StoreAnswer) → stores.meaningOf r ≡ stores.storeFor keyLimit index (raw .bytes) content
-      → Answered index (store raw content) (r .index) (storeSays (r .evicted) (r .stored))
+  storing : {raw : Raw} {brought : Brought} (r : StoreAnswer)
+      → stores.meaningOf r ≡ stores.storeFor keyLimit index (raw .bytes) (brought .content) (brought .newest)
+      → Answered index (store raw brought) (r .index) (storeSays (r .evicted) (r .stored))
   removing : {raw : Raw} (r : RemoveAnswer) → removes.meaningOf r ≡ removes.removeFor keyLimit index (raw .bytes)
       → Answered index (remove raw) (r .index) (checkSays removed (r .checked))
   reloading : {text : List ℕ} (r : ReloadAnswer) → reloads.meaningOf r ≡ reloads.reloadFor keyLimit index text

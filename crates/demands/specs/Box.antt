@@ -8,11 +8,11 @@ use Rattle.refusal.specs.Says.{Said, atLine}
 use Rattle.refusal.specs.Outcome.{Outcome, given, refusal}
 use Rattle.octets.specs.Bytes.{Bytes}
 use Rattle.content_key.specs.Key.{selectorOf, keyOf}
-use Rattle.rlp.specs.Content.{contentOf}
 use Rattle.rlp.specs.declared.Payload.{Payload}
 use Rattle.runs.specs.Setting.{ViewOf}
 use Rattle.key_index.specs.View.{View}
 use Rattle.key_index.specs.Keys.{NineBytes}
+use Rattle.key_store.specs.Store.{examineOf}
 use Rattle.snapshot.specs.Load.{Loading, badLine, loaded, loadOf}
 
 -- node id and cap ("ceiling" in document 01)
@@ -32,10 +32,15 @@ pub record ValidKey (key : List ℕ) : Type 0 where
   pub nine : NineBytes key
   pub selector : selectorOf key ≤ 1
 
--- the key bytes of a call: any bytes. Content and text of a call are any lists.
+-- the key bytes of a call: any bytes. The text of a call is any list.
 pub record Raw : Type 0 where
   pub bytes : List ℕ
   pub each : Bytes bytes
+
+-- what a store call brings beside the key: its content, any list, and the newest known block number, any number, another one in each call
+pub record Brought : Type 0 where
+  pub content : List ℕ
+  pub newest : ℕ
 
 -- the view of an index, with node id and cap put together, and taken apart again
 abbrev pub grouped : View → ViewOf Owner (List ℕ)
@@ -48,13 +53,13 @@ spread v = record { node = v .owner .node; cap = v .owner .cap; keys = v .keys }
 abbrev pub keyFrom : Raw → Outcome (List ℕ)
 keyFrom raw = keyOf (raw .bytes)
 
--- nothing against acceptable content; 16 or 9 against any other
+-- nothing against a key whose number is at most the newest that its call brings, with acceptable content; 17, 16 or 9 against any other
 abbrev pub faultIn : Outcome Payload → Option Said
 faultIn (given payload) = none
 faultIn (refusal says) = some says
 
-abbrev pub faultOf : List ℕ → Option Said
-faultOf content = faultIn (contentOf content)
+abbrev pub faultOf : List ℕ → Brought → Option Said
+faultOf key brought = faultIn (examineOf key (brought .content) (brought .newest))
 
 -- the view that a saved text gives, or 14 with its line
 abbrev pub viewIn : Loading → Outcome (ViewOf Owner (List ℕ))

@@ -6,14 +6,14 @@ use Rattle.octets.specs.Bytes.{be}
 use Rattle.runs.specs.Setting.{Setting}
 use Rattle.key_index.specs.View.{keyLimit}
 use Rattle.key_index.specs.Good.{awayFrom}
-use Rattle.demands.specs.Box.{Owner, ValidOwner, ValidKey, Raw, keyFrom, faultOf, textFrom}
+use Rattle.demands.specs.Box.{Owner, ValidOwner, ValidKey, Raw, Brought, keyFrom, faultOf, textFrom}
 
 abbrev pub box : Setting
 box = record {
   Key = List ℕ;
   Owner = Owner;
   Raw = Raw;
-  Content = List ℕ;
+  Content = Brought;
   Text = List ℕ;
   ValidOwner = ValidOwner;
   ValidKey = λ o k. ValidKey k;
@@ -22,6 +22,6 @@ box = record {
   limit = λ o. keyLimit;
   Same = λ o j k. j ≡ k;
   keyIn = λ o raw. keyFrom raw;
-  fault = λ o k content. faultOf content;
+  fault = λ o k brought. faultOf k brought;
   textIn = textFrom;
 }

@@ -26,6 +26,6 @@ afterReload v (badLine line) = (v, refused (atLine 14 line))
 afterReload v (loaded w) = (grouped w, reloaded)
 
 abbrev pub step : Step box
-step v (store raw content) = afterStore v (storeOf keyLimit (spread v) (raw .bytes) content)
+step v (store raw brought) = afterStore v (storeOf keyLimit (spread v) (raw .bytes) (brought .content) (brought .newest))
 step v (remove raw) = afterRemove v (removeOf keyLimit (spread v) (raw .bytes))
 step v (reload text) = cond (good keyLimit (spread v)) (afterReload v (loadOf text)) (v, refused (only 0))

@@ -59,7 +59,7 @@ fn called(call: u32, index: KeyIndex, number: u32, text: &mut [u8], len: usize) 
 }
 
 fn stored(index: KeyIndex, key: [u8; 9], number: u32) -> u64 {
-    let done = key_store::store(index, &key, b"\xc0");
+    let done = key_store::store(index, &key, b"\xc0", number as u64);
     let how = done.stored;
     let evicted = done.evicted;
     added(

@@ -73,15 +73,8 @@ fn show(name: &[u8], index: KeyIndex) {
     let at = answer::end(&mut out, named);
     let asked = radius_line(index, &mut out, at);
     let held = holds_line(index, &mut out, asked);
-    let stored = store_line(index, b"  store body 0: ", b"\xc0", &mut out, held);
-    let cut = store_line(
-        index,
-        b"  store body 0, content cut off: ",
-        b"\xc1",
-        &mut out,
-        stored,
-    );
-    let removed = remove_line(index, &mut out, cut);
+    let stored = store_lines(index, &mut out, held);
+    let removed = remove_line(index, &mut out, stored);
     let saved = save_line(index, &mut out, removed);
     let last = reload_line(index, &mut out, saved);
     io::write_all(STDOUT_FILENO, words::front(&out, last));
@@ -118,10 +111,38 @@ fn holds_line(index: KeyIndex, out: &mut [u8], from: usize) -> usize {
     }
 }
 
-fn store_line(index: KeyIndex, name: &[u8], content: &[u8], out: &mut [u8], from: usize) -> usize {
+// The newest known block is 0 in each store.
+fn store_lines(index: KeyIndex, out: &mut [u8], from: usize) -> usize {
+    let zero = key(0, 0);
+    let stored = store_line(index, b"  store body 0: ", zero, b"\xc0", out, from);
+    let cut = store_line(
+        index,
+        b"  store body 0, content cut off: ",
+        zero,
+        b"\xc1",
+        out,
+        stored,
+    );
+    store_line(
+        index,
+        b"  store body 1, not known yet, content cut off: ",
+        key(0, 1),
+        b"\xc1",
+        out,
+        cut,
+    )
+}
+
+fn store_line(
+    index: KeyIndex,
+    name: &[u8],
+    bytes: [u8; 9],
+    content: &[u8],
+    out: &mut [u8],
+    from: usize,
+) -> usize {
     let at = answer::text(out, from, name);
-    let bytes = key(0, 0);
-    let done = key_store::store(index, &bytes, content);
+    let done = key_store::store(index, &bytes, content, 0);
     let next = done.index;
     let how = done.stored;
     let said = kept_word(index, next, out, at);

@@ -1,4 +1,4 @@
--- The view after a store call: a good view of bytes stays one. What is stored is the key offered to the held ones, so each key of the
+-- The view after a store call: a good view of bytes stays good. What is stored is the key offered to the held ones, so each key of the
 -- result is the new one or was held. Assumes nothing.
 use Prim.Native.Nat.{ℕ, _≤_, _<_}
 use native.Mathlib.Omega.{arith}
@@ -17,11 +17,11 @@ use Rattle.nearest.proofs.Insert.{insert-only, insert-sorted}
 use Rattle.nearest.proofs.Offer.{offer-room}
 use Rattle.key_index.specs.View.{View, withKeys}
 use Rattle.key_index.specs.Good.{awayFrom, good, lastOf}
-use Rattle.key_index.specs.Keys.{Each, NineBytes}
+use Rattle.key_index.specs.Keys.{Each}
 use Rattle.key_index.proofs.Each.{each-member, each-all}
 use Rattle.key_index.proofs.Rules.{good-facts, facts-good}
 use Rattle.key_store.specs.Store.{Storing, storeOf, nextOf}
-use Rattle.key_store.specs.Cases.{OfBytes, Fresh, Stores, bad, no-length, no-selector, no-content, held, beyond, room, full}
+use Rattle.key_store.specs.Cases.{OfBytes, Fresh, Stores, bad, no-length, no-selector, future, no-content, held, beyond, room, full}
 use Rattle.key_store.proofs.Facts.{sorted-near, near-sorted}
 use Rattle.key_store.proofs.Cases.{store-cases}
 
@@ -50,9 +50,6 @@ module _ (limit : ℕ) (v : View) (key : List ℕ) where
         };
       })
 
-  offer-bytes : OfBytes v → NineBytes key → OfBytes (withKeys v (offer (awayFrom (v .node)) limit key (v .keys)))
-  offer-bytes o nine = record { size = o .size; node = o .node; each = each-offer NineBytes nine (o .each) }
-
   -- with room left an insertion is an offer
   as-offer : length (v .keys) < limit → Fresh v key
       → offer (awayFrom (v .node)) limit key (v .keys) ≡ insert (awayFrom (v .node)) key (v .keys)
@@ -64,34 +61,19 @@ module _ (limit : ℕ) (v : View) (key : List ℕ) where
       each-member (λ (k : List ℕ). awayFrom (v .node) k ≤ be (v .cap)) (v .keys) (good-facts limit v g .each .within)
       (subst (λ (l : List (List ℕ)). lastOf (v .keys) among l) (sym e) (middle-self front (lastOf (v .keys)) []))
 
-module _ (limit : ℕ) (v : View) (key content : List ℕ) (o : OfBytes v) where
-  good-case : {s : Storing} → good limit v ≡ true → Stores limit v key content s → good limit (nextOf v s) ≡ true
+module _ (limit : ℕ) (v : View) (key content : List ℕ) (newest : ℕ) (o : OfBytes v) where
+  good-case : {s : Storing} → good limit v ≡ true → Stores limit v key content newest s → good limit (nextOf v s) ≡ true
   good-case g (bad h) = g
   good-case g (no-length h l) = g
   good-case g (no-selector h l s) = g
-  good-case g (no-content h l s t) = g
+  good-case g (future h l s n) = g
+  good-case g (no-content h l s n t) = g
   good-case g (held a m) = g
   good-case g (beyond a f h) = g
   good-case g (room a f h w) =
       subst (λ (ks : List (List ℕ)). good limit (withKeys v ks) ≡ true) (as-offer limit v key h f) (offer-good limit v key g (a .selector) w)
   good-case g (full a f h front e w) = offer-good limit v key g (a .selector) (omega (arith, last-within limit v key g front e))
 
-  bytes-case : {s : Storing} → Bytes key → Stores limit v key content s → OfBytes (nextOf v s)
-  bytes-case b (bad h) = o
-  bytes-case b (no-length h l) = o
-  bytes-case b (no-selector h l s) = o
-  bytes-case b (no-content h l s t) = o
-  bytes-case b (held a m) = o
-  bytes-case b (beyond a f h) = o
-  bytes-case b (room a f h w) =
-      subst (λ (ks : List (List ℕ)). OfBytes (withKeys v ks)) (as-offer limit v key h f) (offer-bytes limit v key o (record { size = a .size; bytes = b }))
-  bytes-case b (full a f h front e w) = offer-bytes limit v key o (record { size = a .size; bytes = b })
-
-  module _ (some : 0 < limit) (b : Bytes key) where
-    -- a good view stays good
-    pub store-good : good limit v ≡ true → good limit (nextOf v (storeOf limit v key content)) ≡ true
-    store-good g = good-case g (store-cases limit v key content some o b)
-
-    -- and its keys nine bytes each
-    pub store-bytes : OfBytes (nextOf v (storeOf limit v key content))
-    store-bytes = bytes-case b (store-cases limit v key content some o b)
+  -- a good view stays good
+  pub store-good : 0 < limit → Bytes key → good limit v ≡ true → good limit (nextOf v (storeOf limit v key content newest)) ≡ true
+  store-good some b g = good-case g (store-cases limit v key content newest some o b)

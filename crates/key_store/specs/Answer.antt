@@ -33,8 +33,8 @@ abbrev pub meaningOf : StoreAnswer → Given
 meaningOf r = answeredBy r (r .stored)
 
 -- what a call at a limit must answer
-abbrev pub storeFor : ℕ → KeyIndex → List ℕ → List ℕ → Given
-storeFor limit index bytes content = givenBy index (storeOf limit (view index) bytes content)
+abbrev pub storeFor : ℕ → KeyIndex → List ℕ → List ℕ → ℕ → Given
+storeFor limit index bytes content newest = givenBy index (storeOf limit (view index) bytes content newest)
 
 -- the evicted key beside the answer: zeros where none
 abbrev pub evictedOr0 : Storing → List ℕ

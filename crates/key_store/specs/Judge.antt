@@ -30,8 +30,8 @@ pub record Says (limit : ℕ) (v : View) (due : Storing) (r : Judged) : Type 0 w
   pub fits : (place : ℕ) (payload : Payload) → r .verdict ≡ At place payload → Fits limit v (r .key) place
 
 -- the verdict on a store call
-abbrev pub Judges : ℕ → View → List ℕ → List ℕ → Judged → Type 0
-Judges limit v bytes content r = Says limit v (storeOf limit v bytes content) r
+abbrev pub Judges : ℕ → View → List ℕ → List ℕ → ℕ → Judged → Type 0
+Judges limit v bytes content newest r = Says limit v (storeOf limit v bytes content newest) r
 
 -- the verdict on a key with acceptable content
 abbrev pub Admits : ℕ → View → List ℕ → Payload → Judged → Type 0

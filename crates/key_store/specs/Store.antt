@@ -1,5 +1,5 @@
--- Storing a key with its content, on the view of an index, over the limit on its keys. The tests come in the order of documents 01 and 02:
--- 0, 7, 8, 16, 9, 11, 10.
+-- Storing a key with its content, on the view of an index, over the limit on its keys, with the newest known block number. The tests come in
+-- the order of documents 01 and 02: 0, 7, 8, 17, 16, 9, 11, 10.
 use Prim.Native.Nat.{ℕ}
 use mathlib.Core.Bool.{cond}
 use mathlib.Core.List.{List}
@@ -8,7 +8,7 @@ use lib.ListN.{length}
 use Rattle.refusal.specs.Says.{Said, only}
 use Rattle.refusal.specs.Outcome.{Outcome}
 use Rattle.octets.specs.Bytes.{be}
-use Rattle.content_key.specs.Key.{keyOf}
+use Rattle.content_key.specs.Key.{blockOf, keyOf}
 use Rattle.rlp.specs.Content.{contentOf}
 use Rattle.rlp.specs.declared.Payload.{Payload}
 use Rattle.nearest.specs.Insert.{insert, offer}
@@ -49,16 +49,20 @@ admitOf limit v key payload =
     (cond (leb (awayFrom (v .node) key) (be (radiusOf limit v))) (putOf limit v key payload)
     (refused (only 10)))
 
--- 16 or 9 for content that is not acceptable
+-- 17 for a key whose number is over the newest known one; else what the content is: where its payload stands, or 16 or 9
+unfoldable pub examineOf : List ℕ → List ℕ → ℕ → Outcome Payload
+examineOf key content newest = cond (leb (blockOf key) newest) (contentOf content) (Outcome.refusal (only 17))
+
+-- refused as the key and its content are
 abbrev pub contentStoreOf : ℕ → View → List ℕ → Outcome Payload → Storing
 contentStoreOf limit v key (Outcome.given payload) = admitOf limit v key payload
 contentStoreOf limit v key (Outcome.refusal says) = refused says
 
 -- 7 or 8 for what is no key
-abbrev pub keyStoreOf : ℕ → View → List ℕ → Outcome (List ℕ) → Storing
-keyStoreOf limit v content (Outcome.given key) = contentStoreOf limit v key (contentOf content)
-keyStoreOf limit v content (Outcome.refusal says) = refused says
+abbrev pub keyStoreOf : ℕ → View → List ℕ → ℕ → Outcome (List ℕ) → Storing
+keyStoreOf limit v content newest (Outcome.given key) = contentStoreOf limit v key (examineOf key content newest)
+keyStoreOf limit v content newest (Outcome.refusal says) = refused says
 
--- any bytes as a key, with any bytes as its content
-unfoldable pub storeOf : ℕ → View → List ℕ → List ℕ → Storing
-storeOf limit v bytes content = cond (good limit v) (keyStoreOf limit v content (keyOf bytes)) (refused (only 0))
+-- any bytes as a key, with any bytes as its content, and any number as the newest
+unfoldable pub storeOf : ℕ → View → List ℕ → List ℕ → ℕ → Storing
+storeOf limit v bytes content newest = cond (good limit v) (keyStoreOf limit v content newest (keyOf bytes)) (refused (only 0))

@@ -1,12 +1,13 @@
-// Storing a key in the index.
+// Storing a key in the index, where its block is known.
 ghost use Prim.Native.Nat.{_*_, _≤_, _<_};
 ghost use mathlib.Core.Path.{_≡_};
 ghost use mathlib.Core.Bool.{true};
 ghost use lib.ListN.{length, replicate};
 ghost use Rattle.octets.specs.Bytes.{be};
+ghost use Rattle.rlp.specs.Answer.{examinedAs};
 ghost use Rattle.key_index.specs.View.{keyLimit, viewOf, view, chunks};
 ghost use Rattle.key_index.specs.Good.{good, radiusOf};
-ghost use Rattle.key_store.specs.Store.{storeOf, putOf};
+ghost use Rattle.key_store.specs.Store.{examineOf, storeOf, putOf};
 ghost use Rattle.key_store.specs.Answer.{givenBy, meaningOf, storeFor, evictedOr0};
 ghost use Rattle.key_store.specs.Move.{nearer, keyAtPlace};
 ghost use Rattle.key_store.specs.Judge.{Judges, Admits, Fits};
@@ -46,10 +47,11 @@ struct Judged {
     key: [u8; 9],
 }
 
-// Stores any bytes as a key, with any bytes as its content. The parts of the index are judged where they lie.
-pub fn store(index: KeyIndex, bytes: &[u8], content: &[u8]) -> StoreAnswer
-    ensures { λ r. ⌜ meaningOf r ≡ storeFor keyLimit index (now (bytes .entry)) (now (content .entry)) ⌝ }
-    ensures { λ r. ⌜ r .evicted ≡ evictedOr0 (storeOf keyLimit (view index) (now (bytes .entry)) (now (content .entry))) ⌝ }
+// Stores any bytes as a key, with any bytes as its content, where the block is not newer than the newest known one. The parts of the index
+// are judged where they lie.
+pub fn store(index: KeyIndex, bytes: &[u8], content: &[u8], newest: u64) -> StoreAnswer
+    ensures { λ r. ⌜ meaningOf r ≡ storeFor keyLimit index (now (bytes .entry)) (now (content .entry)) newest ⌝ }
+    ensures { λ r. ⌜ r .evicted ≡ evictedOr0 (storeOf keyLimit (view index) (now (bytes .entry)) (now (content .entry)) newest) ⌝ }
 {
     let judged = judge(
         index.node,
@@ -58,6 +60,7 @@ pub fn store(index: KeyIndex, bytes: &[u8], content: &[u8]) -> StoreAnswer
         index.count,
         bytes,
         content,
+        newest,
     );
     let verdict = judged.verdict;
     match verdict {
@@ -81,9 +84,10 @@ fn judge(
     count: usize,
     bytes: &[u8],
     content: &[u8],
+    newest: u64,
 ) -> Judged
     requires { ⌜ length (now keys) ≡ 9 * keyLimit ⌝ }
-    ensures { λ r. ⌜ Judges keyLimit (viewOf node cap (now (keys .entry)) count) (now (bytes .entry)) (now (content .entry)) r ⌝ }
+    ensures { λ r. ⌜ Judges keyLimit (viewOf node cap (now (keys .entry)) count) (now (bytes .entry)) (now (content .entry)) newest r ⌝ }
 {
     if !key_index::is_good(node, cap, keys, count) {
         return refused(Refusal::BadState);
@@ -94,11 +98,21 @@ fn judge(
         return refused(why);
     }
     let nine = read.key;
-    let examined = rlp::check(content);
+    let examined = examine(nine, content, newest);
     match examined {
         Examined::Accepted(payload) => admit(node, cap, keys, count, nine, payload),
         Examined::Refused(why) => refused(why),
     }
+}
+
+// What a key and its content come to before the index is asked: a block newer than the newest known one is refused, whatever the content is.
+fn examine(key: [u8; 9], content: &[u8], newest: u64) -> Examined
+    ensures { λ r. ⌜ examinedAs r ≡ examineOf key (now (content .entry)) newest ⌝ }
+{
+    if newest < content_key::block(key) {
+        return Examined::Refused(Refusal::BeyondNewest);
+    }
+    rlp::check(content)
 }
 
 // A key with acceptable content: refused where it is held or too far, else its place.

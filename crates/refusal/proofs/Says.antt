@@ -4,13 +4,13 @@ use mathlib.Core.List.{List, [], _∷_}
 use lib.ListN.{getD}
 use Rattle.refusal.specs.Says.{Said, only, atLine, saysOf}
 use Rattle.refusal.specs.declared.Refusal.{Refusal}
-use Rattle.refusal.specs.declared.Refusal.the-variants.{BadState, EmptyMessage, LongMessage, MessageType, Layout, TooManyItems, ItemRule, KeyLength, KeySelector, Content, BeyondRadius, AlreadyHeld, NotHeld, ShortBuffer, BadSnapshot, NotHex, ContentEndsEarly, OwnId, TableFull, ReplacementsFull, Unusable, NoEntry}
+use Rattle.refusal.specs.declared.Refusal.the-variants.{BadState, EmptyMessage, LongMessage, MessageType, Layout, TooManyItems, ItemRule, KeyLength, KeySelector, Content, BeyondRadius, AlreadyHeld, NotHeld, ShortBuffer, BadSnapshot, NotHex, ContentEndsEarly, BeyondNewest, OwnId, TableFull, ReplacementsFull, Unusable, NoEntry}
 
 -- the refusals without a line, by their numbers, `NotHex` also where a number is not used; `NoEntry` comes behind them
 abbrev table : List Refusal
 table =
     BadState ∷ EmptyMessage ∷ LongMessage ∷ MessageType ∷ Layout ∷ TooManyItems ∷ ItemRule ∷ KeyLength ∷ KeySelector ∷ Content
-    ∷ BeyondRadius ∷ AlreadyHeld ∷ NotHeld ∷ ShortBuffer ∷ NotHex ∷ NotHex ∷ ContentEndsEarly ∷ NotHex ∷ NotHex ∷ NotHex ∷ OwnId ∷ TableFull ∷ ReplacementsFull ∷ Unusable ∷ []
+    ∷ BeyondRadius ∷ AlreadyHeld ∷ NotHeld ∷ ShortBuffer ∷ NotHex ∷ NotHex ∷ ContentEndsEarly ∷ BeyondNewest ∷ NotHex ∷ NotHex ∷ OwnId ∷ TableFull ∷ ReplacementsFull ∷ Unusable ∷ []
 
 -- the refusal that says something
 abbrev pub refusalOf : Said → Refusal
@@ -36,6 +36,7 @@ said-by ShortBuffer = refl
 said-by (BadSnapshot line) = refl
 said-by NotHex = refl
 said-by ContentEndsEarly = refl
+said-by BeyondNewest = refl
 said-by OwnId = refl
 said-by TableFull = refl
 said-by ReplacementsFull = refl

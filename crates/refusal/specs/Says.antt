@@ -2,7 +2,7 @@
 -- nothing else.
 use Prim.Native.Nat.{ℕ}
 use Rattle.refusal.specs.declared.Refusal.{Refusal}
-use Rattle.refusal.specs.declared.Refusal.the-variants.{BadState, EmptyMessage, LongMessage, MessageType, Layout, TooManyItems, ItemRule, KeyLength, KeySelector, Content, BeyondRadius, AlreadyHeld, NotHeld, ShortBuffer, BadSnapshot, NotHex, ContentEndsEarly, OwnId, TableFull, ReplacementsFull, Unusable, NoEntry}
+use Rattle.refusal.specs.declared.Refusal.the-variants.{BadState, EmptyMessage, LongMessage, MessageType, Layout, TooManyItems, ItemRule, KeyLength, KeySelector, Content, BeyondRadius, AlreadyHeld, NotHeld, ShortBuffer, BadSnapshot, NotHex, ContentEndsEarly, BeyondNewest, OwnId, TableFull, ReplacementsFull, Unusable, NoEntry}
 
 pub data Said : Type 0 where
   only : (number : ℕ) → Said
@@ -26,6 +26,7 @@ saysOf ShortBuffer = only 13
 saysOf (BadSnapshot line) = atLine 14 line
 saysOf NotHex = only 15
 saysOf ContentEndsEarly = only 16
+saysOf BeyondNewest = only 17
 saysOf OwnId = only 20
 saysOf TableFull = only 21
 saysOf ReplacementsFull = only 22

@@ -2,7 +2,7 @@
 ghost use mathlib.Core.Path.{_≡_};
 ghost use Rattle.refusal.specs.Says.{numberOf};
 
-// Why a call is refused, in the order of the numbers: 0 to 16, 20 to 23, 29.
+// Why a call is refused, in the order of the numbers: 0 to 17, 20 to 23, 29.
 pub enum Refusal {
     // The index or the routing table handed in breaks its rules.
     BadState,
@@ -38,6 +38,8 @@ pub enum Refusal {
     NotHex,
     // The content is the beginning of an RLP list and ends before the list does.
     ContentEndsEarly,
+    // The key's block number is over the newest known one.
+    BeyondNewest,
     // The id is the routing table's own.
     OwnId,
     // A newcomer whose log distance has room, but all entries are used.
@@ -84,6 +86,7 @@ pub fn number(why: Refusal) -> u8
         Refusal::BadSnapshot { line: _ } => 14,
         Refusal::NotHex => 15,
         Refusal::ContentEndsEarly => 16,
+        Refusal::BeyondNewest => 17,
         Refusal::OwnId => 20,
         Refusal::TableFull => 21,
         Refusal::ReplacementsFull => 22,

@@ -48,7 +48,7 @@ returns c =
     let s = asked (c .before .before) in
     refused-says keyLimit (seen s) _ _ _ _ (c .refused .ensures)
     (due (λ (n : ℕ). refused (only n)) _ 0
-    (store-bad keyLimit (seen s) (now (s .args .bytes)) (now (s .args .content)) (tested (c .before .before) ∙ not-true _ (c .before .if1 .taken)))
+    (store-bad keyLimit (seen s) (now (s .args .bytes)) (now (s .args .content)) (s .args .newest) (tested (c .before .before) ∙ not-true _ (c .before .if1 .taken)))
     (search needs))
 
 key-requires : tie.Need-key-requires
@@ -65,13 +65,13 @@ returns-2 c =
     let at = c .before .before .before .before in
     let s = asked (at .before .before) in
     refused-says keyLimit (seen s) _ _ _ _ (c .refused2 .ensures)
-    (store-key keyLimit (seen s) (now (s .args .bytes)) (now (s .args .content)) _ (kept (at .before)) (was-refused _ _ (at .key .ensures .0) (c .before .before .checked .given .1)))
+    (store-key keyLimit (seen s) (now (s .args .bytes)) (now (s .args .content)) (s .args .newest) _ (kept (at .before)) (was-refused _ _ (at .key .ensures .0) (c .before .before .checked .given .1)))
 
 enum-told : tie.Need-enum-told
 enum-told c = search needs
 
-check-requires : tie.Need-check-requires
-check-requires c κs = search needs
+examine-requires : tie.Need-examine-requires
+examine-requires c κs = search needs
 
 enum-known-examined : tie.Need-enum-known-examined
 enum-known-examined c = search needs
@@ -93,8 +93,8 @@ returns-3 c =
     let s = asked (at .before .before) in
     says-as keyLimit (seen s) _ (admitOf keyLimit (seen s) (at .key .result .key) _) _ (c .admit .ensures)
     (due (admitOf keyLimit (seen s) (at .key .result .key)) _ _
-    (store-admit keyLimit (seen s) (now (s .args .bytes)) (now (s .args .content)) _ _ (kept (at .before)) (read (c .before .before .before .before .before .before))
-    (found _ (c .before .before .before .before .check .ensures) (c .before .before .examined .given .1)))
+    (store-admit keyLimit (seen s) (now (s .args .bytes)) (now (s .args .content)) (s .args .newest) _ _ (kept (at .before)) (read (c .before .before .before .before .before .before))
+    (found _ (c .before .before .before .before .examine .ensures) (c .before .before .examined .given .1)))
     (search needs))
 
 returns-4 : tie.Need-returns-4
@@ -103,8 +103,8 @@ returns-4 c =
     let s = asked (at .before .before) in
     refused-says keyLimit (seen s) _ _ _ _ (c .refused3 .ensures)
     (due refused _ _
-    (store-content keyLimit (seen s) (now (s .args .bytes)) (now (s .args .content)) _ _ (kept (at .before)) (read (c .before .before .before .before .before .before))
-    (found _ (c .before .before .before .before .check .ensures) (c .before .before .examined2 .given .1)))
+    (store-content keyLimit (seen s) (now (s .args .bytes)) (now (s .args .content)) (s .args .newest) _ _ (kept (at .before)) (read (c .before .before .before .before .before .before))
+    (found _ (c .before .before .before .before .examine .ensures) (c .before .before .examined2 .given .1)))
     (search needs))
 
 pub judge-spec : {M : Type 1} → statement M
@@ -119,7 +119,7 @@ judge-spec =
     refused-requires-2
     returns-2
     enum-told
-    check-requires
+    examine-requires
     enum-known-examined
     admit-requires
     enum-known-examined-2

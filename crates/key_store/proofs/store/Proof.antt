@@ -12,7 +12,7 @@ asked c = c .before .before .before .before .before .before .before .before
 
 -- what the call comes to
 abbrev due-of : tie.Start → Storing
-due-of c = storeOf keyLimit (view (c .args .t1)) (now (c .args .bytes)) (now (c .args .content))
+due-of c = storeOf keyLimit (view (c .args .t1)) (now (c .args .bytes)) (now (c .args .content)) (c .args .newest)
 
 judge-requires : tie.Need-judge-requires
 judge-requires c κs = search needs

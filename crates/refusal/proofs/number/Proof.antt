@@ -79,6 +79,9 @@ enum-told-21 c = search needs
 enum-told-22 : tie.Need-enum-told-22
 enum-told-22 c = search needs
 
+enum-told-23 : tie.Need-enum-told-23
+enum-told-23 c = search needs
+
 returns : tie.Need-returns
 returns c = let e = shown (c .enum-told .given .1) in omega arith
 
@@ -145,6 +148,9 @@ returns-21 c = let e = shown (c .enum-told21 .given .1) in omega arith
 returns-22 : tie.Need-returns-22
 returns-22 c = let e = shown (c .enum-told22 .given .1) in omega arith
 
+returns-23 : tie.Need-returns-23
+returns-23 c = let e = shown (c .enum-told23 .given .1) in omega arith
+
 pub number-spec : {M : Type 1} → statement M
 number-spec =
     tie.close
@@ -171,6 +177,7 @@ number-spec =
     enum-told-20
     enum-told-21
     enum-told-22
+    enum-told-23
     returns
     returns-2
     returns-3
@@ -192,4 +199,5 @@ number-spec =
     returns-19
     returns-20
     returns-21
-    returns-22)
+    returns-22
+    returns-23)

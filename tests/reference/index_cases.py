@@ -163,7 +163,7 @@ def newest_words():
 
 
 def near_number(node, place):
-    """The block number whose id begins as the node id does, but for one of the lightest of its eight bytes' bits."""
+    """The block number whose id has the first eight bytes of the node id, with the bits of `place` turned over."""
     top = (node >> 192) ^ place
     return int(format(top % 2**48, '048b')[::-1], 2) << 16 | top >> 48
 

@@ -1,4 +1,5 @@
--- Calls that name no newer block than one take in no key beyond it, and what they do they do without such keys. Assumes nothing.
+-- Calls that name no newer block than n take in no key of a block over n, and come to the same without the stores of such keys. Assumes
+-- nothing.
 use Prim.Native.Nat.{ℕ, _≤_, _<_}
 use native.Mathlib.Omega.{arith}
 use mathlib.Core.Path.{_≡_, refl, sym, ap, subst, _∙_}

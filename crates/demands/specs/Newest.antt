@@ -1,4 +1,4 @@
--- Document 02's wish 7, a member's case: what calls that name no newer block than one can do with keys of blocks beyond it.
+-- Document 02's wish 7, a member's case: calls that name no newer block than n, and the keys of blocks over n.
 use Prim.Native.Nat.{ℕ, _≤_, _<_}
 use mathlib.Core.Path.{_≡_}
 use mathlib.Core.Bool.{cond}
@@ -19,7 +19,7 @@ NewestIn n (store raw brought ∷ cs) = (brought .newest ≤ n) × NewestIn n cs
 NewestIn n (remove raw ∷ cs) = NewestIn n cs
 NewestIn n (reload text ∷ cs) = NewestIn n cs
 
--- the list, with something for each call, without what stands for the store calls whose key bytes have a number over n
+-- of a list that has an item for each call: all but the items of store calls whose key bytes have a number over n
 abbrev pub without : {A : Type 0} → ℕ → List (Call box) → List A → List A
 without n [] l = l
 without n (c ∷ cs) [] = []

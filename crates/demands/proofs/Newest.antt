@@ -36,7 +36,7 @@ key-known : {o : Owner} {raw : Raw} {brought : Brought} {k : List ℕ} → Admit
 key-known {o} {raw} {brought} {k} a = rw (admitted-iff o raw brought k .0 a .0 .bytes) (admitted-known a)
 
 -- an accepted store takes in a key that is admitted
-pub known-step : {v w : View box} {raw : Raw} {brought : Brought} {a : Answer box} → Done box v (store raw brought) w a → Accepted box a
+known-step : {v w : View box} {raw : Raw} {brought : Brought} {a : Answer box} → Done box v (store raw brought) w a → Accepted box a
     → blockOf (raw .bytes) ≤ brought .newest
 known-step (refusing why) accepted = absurd accepted
 known-step (storing taken room) accepted = key-known (taken .admitted)

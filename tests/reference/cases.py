@@ -1,5 +1,6 @@
 """The inputs that the programs are run on."""
 from content_cases import content_edges, contents
+from header_cases import header_lines
 from history import digits, distance, key_id, make_key
 from index_cases import full_lines, index_lines
 from message_cases import all_messages, write_lines
@@ -56,7 +57,7 @@ def console_input():
     lines = id_lines(stream) + distance_lines(stream) + class_lines() + asked_lines() + interest_lines(stream)
     lines += [b'content ' + (c.hex().encode() or b'-') for c in contents(stream) + content_edges()]
     lines += [b'read ' + (m.hex().encode() or b'-') for m in all_messages(stream)]
-    lines += write_lines(stream) + first_replies() + index_lines(stream) + snapshot_lines(stream) + routing_lines() + reply_lines()
+    lines += write_lines(stream) + first_replies() + index_lines(stream) + snapshot_lines(stream) + routing_lines() + reply_lines() + header_lines()
     # what takes a slow build longest comes last
     lines += full_lines()
     return b'\n'.join(lines + no_calls(stream)) + b'\n'

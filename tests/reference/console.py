@@ -1,4 +1,7 @@
 """The console's answers: one line of text for each line read."""
+import hashlib
+
+import headers
 import messages
 import rlp
 from index import Index, load
@@ -10,6 +13,8 @@ LONGEST = 65536
 MOST_WORDS = 40
 # how many bytes can be lent to replies
 LENT_RECORD, LENT_CONTENT = 512, 2048
+# how many bytes of roots and of records can be lent: one of each more than a call takes
+LENT_ROOTS, LENT_RECORDS = 32 * 2049, 64 * 8193
 
 
 class NoCall(Exception):
@@ -78,6 +83,14 @@ def message_values(name, words):
     return [values[at] for at in range(len(fields))]
 
 
+def longer(held, word, most):
+    """A list of bytes that is lent, with those of a word behind it, if there are no more than these then. `-` leaves none."""
+    more = data(word)
+    if len(held + more) > most:
+        raise NoCall
+    return held + more if more else b''
+
+
 def yes_or_no(found):
     return 'yes' if found else 'no'
 
@@ -105,6 +118,7 @@ class Console:
     def __init__(self):
         self.index, self.room, self.neighbours = Index(0, 2**256 - 1), LONGEST, Table(0)
         self.record, self.connection, self.lent = b'', NO_CONNECTION, b''
+        self.lent_roots, self.lent_records = b'', b''
 
     def id(self, key):
         return 'id ' + digits(key_id(data(key)))
@@ -206,6 +220,26 @@ class Console:
         sent = reply(self.index, self.neighbours, self.record, self.lent, self.connection, data(message), self.room)
         return ' '.join(['reply'] + [m.hex() for m in sent])
 
+    def sha256(self, message):
+        return 'hash ' + hashlib.sha256(data(message)).hexdigest()
+
+    def roots(self, more):
+        self.lent_roots = longer(self.lent_roots, more, LENT_ROOTS)
+        return 'ok'
+
+    def records(self, more):
+        self.lent_records = longer(self.lent_records, more, LENT_RECORDS)
+        return 'ok'
+
+    def canonical(self, block, block_hash, proof):
+        return yes_or_no(headers.canonical(number(block, 2**64 - 1), data(block_hash), data(proof), self.lent_roots))
+
+    def root(self):
+        return 'root ' + headers.root(self.lent_records, self.room).hex()
+
+    def proof(self, position):
+        return 'proof ' + headers.proof(self.lent_records, number(position, 2**64 - 1), self.room).hex()
+
     def help(self):
         named = []
         for name, (call, words) in self.CALLS.items():
@@ -239,6 +273,12 @@ class Console:
         b'own': (own, 'RECORD'),
         b'lend': (lend, 'CONNECTION CONTENT'),
         b'reply': (reply, 'MESSAGE'),
+        b'sha256': (sha256, 'BYTES'),
+        b'roots': (roots, 'BYTES'),
+        b'records': (records, 'BYTES'),
+        b'canonical': (canonical, 'NUMBER HASH PROOF'),
+        b'root': (root, ''),
+        b'proof': (proof, 'POSITION'),
         b'help': (help, ''),
     }
 

@@ -15,6 +15,7 @@ import lister
 import reply_edges
 import reversal
 import routing_edges
+import sha256_vectors
 import write_edges
 
 CRATES = Path(__file__).resolve().parents[2] / 'crates'
@@ -32,6 +33,7 @@ def stored():
     yield CRATES / 'write_edges' / 'stdout', write_edges.output()
     yield CRATES / 'routing_edges' / 'stdout', routing_edges.output()
     yield CRATES / 'reply_edges' / 'stdout', reply_edges.output()
+    yield CRATES / 'sha256_vectors' / 'stdout', sha256_vectors.output()
 
 
 def main():

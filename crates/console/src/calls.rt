@@ -1,5 +1,6 @@
 // The calls that a line can make, by its first word.
 use crate::help;
+use console_headers::Ends;
 use console_replies::Lent;
 use console_text::answer;
 use console_text::words;
@@ -32,16 +33,23 @@ enum Call {
     Own,
     Lend,
     Reply,
+    Sha256,
+    Roots,
+    Records,
+    Canonical,
+    Root,
+    Proof,
     Help,
     None,
 }
 
-// What the console holds from line to line: the index, the routing table, what is lent to replies, and the length of the buffer that is
-// lent to calls that write.
+// What the console holds from line to line: the index, the routing table, what is lent to replies, where the lent roots and records end,
+// and the length of the buffer that is lent to calls that write.
 pub struct State {
     pub index: KeyIndex,
     pub table: RoutingTable,
     pub lent: Lent,
+    pub ends: Ends,
     pub room: usize,
 }
 
@@ -51,20 +59,22 @@ pub struct Answered {
     pub len: usize,
 }
 
-// At first, a fresh index of node id zero and a cap of all ones, a fresh table of own id zero, nothing for replies, and the whole buffer.
+// At first, a fresh index of node id zero and a cap of all ones, a fresh table of own id zero, nothing lent, and the whole buffer.
 pub fn start() -> State {
     State {
         index: key_index::fresh([0u8; 32], [255u8; 32]),
         table: routing_table::fresh([0u8; 32]),
         lent: console_replies::nothing(),
+        ends: console_headers::nothing(),
         room: 65536,
     }
 }
 
-// Does what the line asks, and puts the answer into out.
+// Does what the line asks, and puts the answer into out. The lists are the lent roots and records.
 pub fn answer(
     state: State,
     line: &[u8],
+    lists: &mut [u8],
     data: &mut [u8],
     spare: &mut [u8],
     out: &mut [u8],
@@ -93,7 +103,7 @@ pub fn answer(
             let len = replied(state, line, words, data, spare, out);
             Answered { state, len }
         }
-        _ => routed(call, state, line, words, data, out),
+        _ => headed(call, state, line, words, lists, data, spare, out),
     }
 }
 
@@ -126,7 +136,51 @@ fn held(state: State, reply: console_index::Reply) -> Answered {
     let index = reply.index;
     let table = state.table;
     let lent = state.lent;
-    going_on(index, table, lent, state.room, reply.len)
+    let ends = state.ends;
+    going_on(index, table, lent, ends, state.room, reply.len)
+}
+
+// The calls on lent roots and records, and those that `routed` makes.
+fn headed(
+    call: Call,
+    state: State,
+    line: &[u8],
+    words: Words,
+    lists: &mut [u8],
+    data: &mut [u8],
+    spare: &mut [u8],
+    out: &mut [u8],
+) -> Answered {
+    let ends = state.ends;
+    match call {
+        Call::Roots => listed(state, console_headers::roots(ends, line, words, lists, out)),
+        Call::Records => listed(
+            state,
+            console_headers::records(ends, line, words, lists, out),
+        ),
+        Call::Canonical => {
+            let len = console_headers::canonical(ends, line, words, lists, data, spare, out);
+            Answered { state, len }
+        }
+        Call::Root => {
+            let len = console_headers::root(ends, words, state.room, lists, spare, out);
+            Answered { state, len }
+        }
+        Call::Proof => {
+            let len = console_headers::proof(ends, line, words, state.room, lists, spare, out);
+            Answered { state, len }
+        }
+        _ => routed(call, state, line, words, data, out),
+    }
+}
+
+// The state with where the lent roots and records end from now on.
+fn listed(state: State, lending: console_headers::Lending) -> Answered {
+    let index = state.index;
+    let table = state.table;
+    let lent = state.lent;
+    let ends = lending.ends;
+    going_on(index, table, lent, ends, state.room, lending.len)
 }
 
 // The calls that change the routing table or what is lent to replies, and those that change nothing.
@@ -170,7 +224,8 @@ fn met(state: State, reply: console_routing::Reply) -> Answered {
     let index = state.index;
     let table = reply.table;
     let lent = state.lent;
-    going_on(index, table, lent, state.room, reply.len)
+    let ends = state.ends;
+    going_on(index, table, lent, ends, state.room, reply.len)
 }
 
 // The state with what is lent to replies from now on.
@@ -178,15 +233,24 @@ fn lending(state: State, lending: console_replies::Lending) -> Answered {
     let index = state.index;
     let table = state.table;
     let lent = lending.lent;
-    going_on(index, table, lent, state.room, lending.len)
+    let ends = state.ends;
+    going_on(index, table, lent, ends, state.room, lending.len)
 }
 
 // The state to go on with, of these parts, and the length of the answer.
-fn going_on(index: KeyIndex, table: RoutingTable, lent: Lent, room: usize, len: usize) -> Answered {
+fn going_on(
+    index: KeyIndex,
+    table: RoutingTable,
+    lent: Lent,
+    ends: Ends,
+    room: usize,
+    len: usize,
+) -> Answered {
     let state = State {
         index,
         table,
         lent,
+        ends,
         room,
     };
     Answered { state, len }
@@ -223,6 +287,7 @@ fn unchanged(
         Call::Read => console_messages::read(line, words, data, out),
         Call::Radius => console_index::radius(index, words, out),
         Call::Keys => console_index::keys(index, words, out),
+        Call::Sha256 => console_headers::sha256(line, words, data, out),
         Call::Help => help::help(words, out),
         _ => answer::error(out),
     }
@@ -316,6 +381,28 @@ fn reply_call(name: &[u8]) -> Call {
     }
     if check::same(name, b"reply") {
         return Call::Reply;
+    }
+    header_call(name)
+}
+
+fn header_call(name: &[u8]) -> Call {
+    if check::same(name, b"sha256") {
+        return Call::Sha256;
+    }
+    if check::same(name, b"roots") {
+        return Call::Roots;
+    }
+    if check::same(name, b"records") {
+        return Call::Records;
+    }
+    if check::same(name, b"canonical") {
+        return Call::Canonical;
+    }
+    if check::same(name, b"root") {
+        return Call::Root;
+    }
+    if check::same(name, b"proof") {
+        return Call::Proof;
     }
     Call::None
 }

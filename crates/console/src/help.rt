@@ -23,11 +23,7 @@ pub fn help(words: Words, out: &mut [u8]) -> usize {
         index,
         b"table OWN; seen ID RADIUS IP PORT RECORD; failed ID; rows; waiting; entry ID; ",
     );
-    let last = answer::text(
-        out,
-        table,
-        b"own RECORD; lend CONNECTION CONTENT; reply MESSAGE; help",
-    );
+    let last = last_calls(out, table);
     answer::end(out, last)
 }
 
@@ -47,5 +43,19 @@ fn message_calls(out: &mut [u8], from: usize) -> usize {
         out,
         found,
         b"write offer KEY, write accept KEY, write store CONNECTION CONTENT; buffer N; ",
+    )
+}
+
+// The calls on replies and on pre-merge headers, and this one.
+fn last_calls(out: &mut [u8], from: usize) -> usize {
+    let replies = answer::text(
+        out,
+        from,
+        b"own RECORD; lend CONNECTION CONTENT; reply MESSAGE; ",
+    );
+    answer::text(
+        out,
+        replies,
+        b"sha256 BYTES; roots BYTES; records BYTES; canonical NUMBER HASH PROOF; root; proof POSITION; help",
     )
 }

@@ -41,14 +41,30 @@ struct Turn {
 fn main() {
     let mut input = io::large_buffer();
     let mut line = io::large_buffer();
+    let mut lists = console_headers::empty();
     let mut data = io::large_buffer();
     let mut spare = io::large_buffer();
     let mut out = answer_buffer();
-    let kept = read_lines(&mut input, &mut line, &mut data, &mut spare, &mut out);
+    let kept = read_lines(
+        &mut input,
+        &mut line,
+        &mut lists,
+        &mut data,
+        &mut spare,
+        &mut out,
+    );
     let held = kept.held;
     if held.long || held.len > 0 {
         let state = kept.state;
-        answer_line(state, held, &line, &mut data, &mut spare, &mut out);
+        answer_line(
+            state,
+            held,
+            &line,
+            &mut lists,
+            &mut data,
+            &mut spare,
+            &mut out,
+        );
     }
 }
 
@@ -64,6 +80,7 @@ fn answer_buffer() -> [u8; 131072]
 fn read_lines(
     input: &mut [u8],
     line: &mut [u8],
+    lists: &mut [u8],
     data: &mut [u8],
     spare: &mut [u8],
     out: &mut [u8],
@@ -79,13 +96,18 @@ fn read_lines(
     let mut turns = u64::MAX;
     while turns > 0 {
         let kept = turn.kept;
-        turn = read_some(kept, input, line, data, spare, out);
-        if !turn.more {
-            return turn.kept;
-        }
-        turns -= 1;
+        turn = read_some(kept, input, line, lists, data, spare, out);
+        turns = left(turns, turn.more);
     }
     turn.kept
+}
+
+// One turn less, and none where there is no more to read.
+fn left(turns: u64, more: bool) -> u64
+    requires { ⌜ 0 < turns ⌝ }
+    ensures { λ r. ⌜ r < turns ⌝ }
+{
+    if more { turns - 1 } else { 0 }
 }
 
 // Reads once, and answers the lines that end in what came.
@@ -93,6 +115,7 @@ fn read_some(
     kept: Kept,
     input: &mut [u8],
     line: &mut [u8],
+    lists: &mut [u8],
     data: &mut [u8],
     spare: &mut [u8],
     out: &mut [u8],
@@ -102,7 +125,7 @@ fn read_some(
         return Turn { kept, more: false };
     }
     let n = io::count(got, input);
-    let next = read_block(kept, words::front(input, n), line, data, spare, out);
+    let next = read_block(kept, words::front(input, n), line, lists, data, spare, out);
     Turn {
         kept: next,
         more: true,
@@ -121,6 +144,7 @@ fn read_block(
     kept: Kept,
     block: &[u8],
     line: &mut [u8],
+    lists: &mut [u8],
     data: &mut [u8],
     spare: &mut [u8],
     out: &mut [u8],
@@ -130,7 +154,7 @@ fn read_block(
     while at < block.len() {
         let held = kept.held;
         let taken = take_line(held, block, at, line);
-        kept = answer_taken(kept, taken, line, data, spare, out);
+        kept = answer_taken(kept, taken, line, lists, data, spare, out);
         at = taken.next;
     }
     kept
@@ -141,6 +165,7 @@ fn answer_taken(
     kept: Kept,
     taken: Taken,
     line: &[u8],
+    lists: &mut [u8],
     data: &mut [u8],
     spare: &mut [u8],
     out: &mut [u8],
@@ -148,7 +173,7 @@ fn answer_taken(
     let state = kept.state;
     let held = taken.held;
     if taken.ended {
-        let next = answer_line(state, held, line, data, spare, out);
+        let next = answer_line(state, held, line, lists, data, spare, out);
         return Kept {
             state: next,
             held: nothing(),
@@ -201,11 +226,12 @@ fn answer_line(
     state: State,
     held: Held,
     line: &[u8],
+    lists: &mut [u8],
     data: &mut [u8],
     spare: &mut [u8],
     out: &mut [u8],
 ) -> State {
-    let answered = answer_to(state, held, line, data, spare, out);
+    let answered = answer_to(state, held, line, lists, data, spare, out);
     io::write_all(STDOUT_FILENO, words::front(out, answered.len));
     answered.state
 }
@@ -215,6 +241,7 @@ fn answer_to(
     state: State,
     held: Held,
     line: &[u8],
+    lists: &mut [u8],
     data: &mut [u8],
     spare: &mut [u8],
     out: &mut [u8],
@@ -224,5 +251,5 @@ fn answer_to(
         return Answered { state, len };
     }
     let len = held.len;
-    calls::answer(state, words::front(line, len), data, spare, out)
+    calls::answer(state, words::front(line, len), lists, data, spare, out)
 }

@@ -4,13 +4,14 @@ use mathlib.Core.List.{List, [], _∷_}
 use lib.ListN.{getD}
 use Rattle.refusal.specs.Says.{Said, only, atLine, saysOf}
 use Rattle.refusal.specs.declared.Refusal.{Refusal}
-use Rattle.refusal.specs.declared.Refusal.the-variants.{BadState, EmptyMessage, LongMessage, MessageType, Layout, TooManyItems, ItemRule, KeyLength, KeySelector, Content, BeyondRadius, AlreadyHeld, NotHeld, ShortBuffer, BadSnapshot, NotHex, ContentEndsEarly, BeyondNewest, OwnId, TableFull, ReplacementsFull, Unusable, NoEntry}
+use Rattle.refusal.specs.declared.Refusal.the-variants.{BadState, EmptyMessage, LongMessage, MessageType, Layout, TooManyItems, ItemRule, KeyLength, KeySelector, Content, BeyondRadius, AlreadyHeld, NotHeld, ShortBuffer, BadSnapshot, NotHex, ContentEndsEarly, BeyondNewest, OwnId, TableFull, ReplacementsFull, Unusable, InputLength, NoSuchPlace, NoEntry}
 
 -- the refusals without a line, by their numbers, `NotHex` also where a number is not used; `NoEntry` comes behind them
 abbrev table : List Refusal
 table =
     BadState ∷ EmptyMessage ∷ LongMessage ∷ MessageType ∷ Layout ∷ TooManyItems ∷ ItemRule ∷ KeyLength ∷ KeySelector ∷ Content
-    ∷ BeyondRadius ∷ AlreadyHeld ∷ NotHeld ∷ ShortBuffer ∷ NotHex ∷ NotHex ∷ ContentEndsEarly ∷ BeyondNewest ∷ NotHex ∷ NotHex ∷ OwnId ∷ TableFull ∷ ReplacementsFull ∷ Unusable ∷ []
+    ∷ BeyondRadius ∷ AlreadyHeld ∷ NotHeld ∷ ShortBuffer ∷ NotHex ∷ NotHex ∷ ContentEndsEarly ∷ BeyondNewest ∷ NotHex ∷ NotHex ∷ OwnId ∷ TableFull ∷ ReplacementsFull ∷ Unusable
+    ∷ InputLength ∷ NoSuchPlace ∷ []
 
 -- the refusal that says something
 abbrev pub refusalOf : Said → Refusal
@@ -41,6 +42,8 @@ said-by OwnId = refl
 said-by TableFull = refl
 said-by ReplacementsFull = refl
 said-by Unusable = refl
+said-by InputLength = refl
+said-by NoSuchPlace = refl
 said-by NoEntry = refl
 
 pub says-inj : (a b : Refusal) → saysOf a ≡ saysOf b → a ≡ b

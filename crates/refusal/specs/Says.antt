@@ -2,7 +2,7 @@
 -- nothing else.
 use Prim.Native.Nat.{ℕ}
 use Rattle.refusal.specs.declared.Refusal.{Refusal}
-use Rattle.refusal.specs.declared.Refusal.the-variants.{BadState, EmptyMessage, LongMessage, MessageType, Layout, TooManyItems, ItemRule, KeyLength, KeySelector, Content, BeyondRadius, AlreadyHeld, NotHeld, ShortBuffer, BadSnapshot, NotHex, ContentEndsEarly, BeyondNewest, OwnId, TableFull, ReplacementsFull, Unusable, NoEntry}
+use Rattle.refusal.specs.declared.Refusal.the-variants.{BadState, EmptyMessage, LongMessage, MessageType, Layout, TooManyItems, ItemRule, KeyLength, KeySelector, Content, BeyondRadius, AlreadyHeld, NotHeld, ShortBuffer, BadSnapshot, NotHex, ContentEndsEarly, BeyondNewest, OwnId, TableFull, ReplacementsFull, Unusable, InputLength, NoSuchPlace, NoEntry}
 
 pub data Said : Type 0 where
   only : (number : ℕ) → Said
@@ -31,6 +31,8 @@ saysOf OwnId = only 20
 saysOf TableFull = only 21
 saysOf ReplacementsFull = only 22
 saysOf Unusable = only 23
+saysOf InputLength = only 24
+saysOf NoSuchPlace = only 25
 saysOf NoEntry = only 29
 
 -- the number, without a line

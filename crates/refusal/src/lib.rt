@@ -2,7 +2,7 @@
 ghost use mathlib.Core.Path.{_≡_};
 ghost use Rattle.refusal.specs.Says.{numberOf};
 
-// Why a call is refused, in the order of the numbers: 0 to 17, 20 to 23, 29.
+// Why a call is refused, in the order of the numbers: 0 to 17, 20 to 25, 29.
 pub enum Refusal {
     // The index or the routing table handed in breaks its rules.
     BadState,
@@ -48,6 +48,10 @@ pub enum Refusal {
     ReplacementsFull,
     // Our own record or the connection id is needed for a reply and is not usable.
     Unusable,
+    // An input of a call on pre-merge headers has a wrong length.
+    InputLength,
+    // There is no such epoch, or no record at this position.
+    NoSuchPlace,
     // The id that failed has no entry.
     NoEntry,
 }
@@ -91,6 +95,8 @@ pub fn number(why: Refusal) -> u8
         Refusal::TableFull => 21,
         Refusal::ReplacementsFull => 22,
         Refusal::Unusable => 23,
+        Refusal::InputLength => 24,
+        Refusal::NoSuchPlace => 25,
         Refusal::NoEntry => 29,
     }
 }

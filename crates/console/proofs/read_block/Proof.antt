@@ -7,10 +7,10 @@ use Rattle.console.proofs.read_block.Statement.{statement}
 use Rattle.console.proofs.read_block.Tie as tie
 
 abbrev Inv-loop : tie.InvT-loop
-Inv-loop block line₀ data₀ spare₀ out₀ kept₀ at₀ line «data» spare out kept at = (at ≤ length block) × (length line ≡ length line₀) × (length «data» ≡ length data₀) × (length spare ≡ length spare₀) × (length out ≡ length out₀)
+Inv-loop block line₀ lists₀ data₀ spare₀ out₀ kept₀ at₀ line lists «data» spare out kept at = (at ≤ length block) × (length line ≡ length line₀) × (length lists ≡ length lists₀) × (length «data» ≡ length data₀) × (length spare ≡ length spare₀) × (length out ≡ length out₀)
 
 abbrev μ-loop : tie.MeasureT-loop
-μ-loop block line₀ data₀ spare₀ out₀ kept₀ at₀ line «data» spare out kept at = length block - at
+μ-loop block line₀ lists₀ data₀ spare₀ out₀ kept₀ at₀ line lists «data» spare out kept at = length block - at
 
 loop-holds : tie.Need-loop-holds Inv-loop μ-loop
 loop-holds c = search needs
@@ -26,10 +26,10 @@ loop-less c = search needs
 
 loop-again : tie.Need-loop-again Inv-loop μ-loop
 loop-again c =
-    let inv = c .before .before .before .before .before .before .before .before .before .before .before .before .before .before .before .before .before .loop .inv in
-    let line = c .before .before .before .before .before .before .before .before .before .before .before .before .before .take-line .kept in
-    let rest = c .before .before .before .before .before .before .answer-taken .kept in
-    (search needs, line .1 .1 .1 .0 ∙ inv .1, rest .1 .1 .1 .0 ∙ inv .2, rest .1 .1 .1 .1 .0 ∙ inv .3, rest .1 .1 .1 .1 .1 .0 ∙ inv .4)
+    let inv = c .before .before .before .before .before .before .before .before .before .before .before .before .before .before .before .before .before .before .before .before .loop .inv in
+    let line = c .before .before .before .before .before .before .before .before .before .before .before .before .before .before .before .before .take-line .kept in
+    let rest = c .before .before .before .before .before .before .before .before .answer-taken .kept in
+    (search needs, line .1 .1 .1 .0 ∙ inv .1, rest .1 .1 .1 .0 ∙ inv .2, rest .1 .1 .1 .1 .0 ∙ inv .3, rest .1 .1 .1 .1 .1 .0 ∙ inv .4, rest .1 .1 .1 .1 .1 .1 .0 ∙ inv .5)
 
 same-length : tie.Need-same-length Inv-loop μ-loop
 same-length c = search needs
@@ -42,6 +42,9 @@ same-length-3 c = search needs
 
 same-length-4 : tie.Need-same-length-4 Inv-loop μ-loop
 same-length-4 c = search needs
+
+same-length-5 : tie.Need-same-length-5 Inv-loop μ-loop
+same-length-5 c = search needs
 
 returns : tie.Need-returns Inv-loop μ-loop
 returns c = search needs
@@ -61,4 +64,5 @@ read-block-spec =
     same-length-2
     same-length-3
     same-length-4
+    same-length-5
     returns)

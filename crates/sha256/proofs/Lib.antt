@@ -1,0 +1,4 @@
+pub mod Padding
+pub mod Chain
+pub mod Written
+pub mod Hashes

@@ -157,7 +157,8 @@ def swapped(siblings, at):
 
 
 def damage():
-    """A right proof, and the same with each sibling changed, each two neighbours swapped, other lengths, another hash, and at other numbers."""
+    """A right proof, and the same with each sibling changed, each two neighbours swapped, each sibling cut out, other lengths, another hash, and at other
+    numbers."""
     records, position = epoch(EPOCH_SIZE), 5461
     block_hash, difficulty, siblings = hash_of(records, position), difficulty_of(records, position), proof_of(records, position)
     lines = anew('roots', root_of(records)) + [ask(position, block_hash, siblings)]
@@ -165,6 +166,7 @@ def damage():
     lines += [ask(position, block_hash, swapped(siblings, at)) for at in range(14)]
     lines += [ask(position, block_hash, b''.join(cut(siblings, CHUNK)[::-1]))]
     lengths = [siblings[:-1], siblings[1:], siblings[:-CHUNK], siblings[CHUNK:], siblings + b'\0', siblings + bytes(CHUNK), b'', siblings[:1]]
+    lengths += [siblings[: CHUNK * at] + siblings[CHUNK * (at + 1) :] for at in range(1, 14)]
     lines += [ask(position, block_hash, other) for other in lengths]
     # the position's own proof for other hashes, the difficulty and its record's root among them
     others = [hash_of(records, position + 1), hash_of(records, position - 1), difficulty, sha256(block_hash + difficulty).digest(), root_of(records), bytes(CHUNK)]

@@ -98,7 +98,7 @@ fn all_rounds(state: State, words: &[u32]) -> State
     s
 }
 
-// Eight rounds from round t on. The compiler writes these out, so that no word is moved from one variable to the next.
+// Eight rounds from round t on. The compiler writes these out one behind the other.
 fn eight_rounds(state: State, constants: &[u32], words: &[u32], t: usize) -> State
     requires { ⌜ (t + 8 ≤ length (now constants)) × (t + 8 ≤ length (now words)) ⌝ }
     ensures { λ r. ⌜ r ≡ rounds (now (constants .entry)) (now (words .entry)) t state 8 ⌝ }

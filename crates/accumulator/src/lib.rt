@@ -1,4 +1,6 @@
 // Epoch accumulators and the verdict on a block hash: what they are, the laws between them, and the node over two nodes.
+#![tactic(auto)]
+
 ghost use Rattle.std.specs.Prelude.{◌≡◌};
 ghost use Rattle.accumulator.specs.Tree.{parent};
 

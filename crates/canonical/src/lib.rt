@@ -1,4 +1,6 @@
 // The verdict on a block hash: whether its proof leads to the root of the block's epoch.
+#![tactic(auto)]
+
 ghost use Rattle.std.specs.Prelude.{◌<◌, ◌≡◌, length};
 ghost use Rattle.accumulator.specs.Tree.{joined, root_along};
 ghost use Rattle.accumulator.specs.Verdict.{chunks_of, lengths_good, canonical_of};
@@ -6,7 +8,7 @@ ghost use Rattle.canonical.specs.Answer.{verdict_of};
 
 use refusal::Refusal;
 
-#[derive(Drop)]
+#[derive(Clone, Copy)]
 pub enum Verdict {
     Yes,
     No,

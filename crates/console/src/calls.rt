@@ -7,7 +7,7 @@ use console_text::{answer, words};
 use key_index::KeyIndex;
 use routing_table::RoutingTable;
 
-#[derive(Drop)]
+#[derive(Clone, Copy)]
 enum Call {
     Id,
     Distance,
@@ -45,7 +45,7 @@ enum Call {
 
 // What the console holds from line to line: the index, the routing table, what is lent to replies, where the lent roots and records end,
 // and the length of the buffer that is lent to calls that write.
-#[derive(Drop)]
+#[derive(Clone, Copy)]
 pub struct State {
     pub index: KeyIndex,
     pub table: RoutingTable,
@@ -55,7 +55,7 @@ pub struct State {
 }
 
 // The state to go on with, and the length of the answer.
-#[derive(Drop)]
+#[derive(Clone, Copy)]
 pub struct Answered {
     pub state: State,
     pub len: usize,

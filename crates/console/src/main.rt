@@ -1,4 +1,6 @@
 // Every call of the libraries from a line of text: reads lines, and answers one line for each.
+#![tactic(auto)]
+
 ghost use Rattle.std.specs.Prelude.{◌≤◌, ◌<◌, ◌≡◌, length};
 
 mod calls;
@@ -9,14 +11,14 @@ use console_text::{answer, words};
 use libc::{STDIN_FILENO, STDOUT_FILENO};
 
 // A line that has begun: how many of its characters the line buffer holds, and whether it is longer than that.
-#[derive(Drop)]
+#[derive(Clone, Copy)]
 struct Held {
     len: usize,
     long: bool,
 }
 
 // What was read of a block: the line that has begun, where to go on, and whether a line feed ended it.
-#[derive(Drop)]
+#[derive(Clone, Copy)]
 struct Taken {
     held: Held,
     next: usize,
@@ -24,14 +26,14 @@ struct Taken {
 }
 
 // What is kept from block to block.
-#[derive(Drop)]
+#[derive(Clone, Copy)]
 struct Kept {
     state: State,
     held: Held,
 }
 
 // What a read left, and whether there may be more.
-#[derive(Drop)]
+#[derive(Clone, Copy)]
 struct Turn {
     kept: Kept,
     more: bool,

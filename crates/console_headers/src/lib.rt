@@ -1,6 +1,8 @@
 // The console's calls on pre-merge headers.
 //
 // A part of the program `console`: its functions are proved to be safe and to end, and what they answer is tested with the program.
+#![tactic(auto)]
+
 ghost use Rattle.std.specs.Prelude.{◌≡◌, length};
 
 use canonical::Verdict;
@@ -16,14 +18,14 @@ const AFTER_ROOTS: usize = 2049 * 32;
 const AFTER_RECORDS: usize = AFTER_ROOTS + 8193 * 64;
 
 // Where the roots that are lent end in that buffer, and where the records do.
-#[derive(Drop)]
+#[derive(Clone, Copy)]
 pub struct Ends {
     roots: usize,
     records: usize,
 }
 
 // What is lent from now on, and the length of the answer.
-#[derive(Drop)]
+#[derive(Clone, Copy)]
 pub struct Lending {
     pub ends: Ends,
     pub len: usize,
@@ -90,7 +92,7 @@ fn lent(ends: Ends, out: &mut [u8]) -> Lending {
 }
 
 // Where a list ends with one word's bytes more.
-#[derive(Drop)]
+#[derive(Clone, Copy)]
 enum Grown {
     To(usize),
     // The line is no call, or the bytes do not fit.
@@ -217,7 +219,7 @@ fn lent_records(ends: Ends, lists: &[u8]) -> &[u8] {
 }
 
 // What is asked of the records: their root, or the proof of a position.
-#[derive(Drop)]
+#[derive(Clone, Copy)]
 enum Asked {
     Root,
     Proof(u64),

@@ -1,6 +1,8 @@
 // The console's calls on the key index.
 //
 // A part of the program `console`: its functions are proved to be safe and to end, and what they answer is tested with the program.
+#![tactic(auto)]
+
 use console_text::words::Words;
 use console_text::{answer, words};
 use hexadecimal::Decoded;
@@ -10,7 +12,7 @@ use refusal::{Checked, Wrote};
 use rlp::Payload;
 
 // The index to go on with, and the length of the answer.
-#[derive(Drop)]
+#[derive(Clone, Copy)]
 pub struct Reply {
     pub index: KeyIndex,
     pub len: usize,

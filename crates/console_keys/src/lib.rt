@@ -1,6 +1,8 @@
 // The console's calls on keys, ids and distances.
 //
 // A part of the program `console`: its functions are proved to be safe and to end, and what they answer is tested with the program.
+#![tactic(auto)]
+
 use console_text::words::Words;
 use console_text::{answer, words};
 use content_key::Interest;

@@ -1,6 +1,8 @@
 // The console's calls on content and messages.
 //
 // A part of the program `console`: its functions are proved to be safe and to end, and what they answer is tested with the program.
+#![tactic(auto)]
+
 mod writing;
 
 use console_text::words::Words;

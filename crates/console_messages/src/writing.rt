@@ -9,14 +9,14 @@ use refusal::{Refusal, Wrote};
 const MOST: usize = 40;
 
 // What a line comes to.
-#[derive(Drop)]
+#[derive(Clone, Copy)]
 enum Reply {
     Bytes(usize),
     Refused(Refusal),
     NoCall,
 }
 
-#[derive(Drop)]
+#[derive(Clone, Copy)]
 enum Name {
     Ping,
     Pong,
@@ -31,7 +31,7 @@ enum Name {
 }
 
 // Records that are decoded one behind the other, up to `end`.
-#[derive(Drop)]
+#[derive(Clone, Copy)]
 struct Lent {
     good: bool,
     end: usize,

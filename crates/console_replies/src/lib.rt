@@ -1,6 +1,8 @@
 // The console's calls on replies.
 //
 // A part of the program `console`: its functions are proved to be safe and to end, and what they answer is tested with the program.
+#![tactic(auto)]
+
 use console_text::words::Words;
 use console_text::{answer, words};
 use hexadecimal::Decoded;
@@ -14,7 +16,7 @@ const LENT_RECORD: usize = 512;
 const LENT_CONTENT: usize = 2048;
 
 // What is lent to replies: our own record, a connection id and content.
-#[derive(Drop)]
+#[derive(Clone, Copy)]
 pub struct Lent {
     own: [u8; LENT_RECORD],
     own_len: usize,
@@ -24,7 +26,7 @@ pub struct Lent {
 }
 
 // What is lent from now on, and the length of the answer.
-#[derive(Drop)]
+#[derive(Clone, Copy)]
 pub struct Lending {
     pub lent: Lent,
     pub len: usize,

@@ -1,6 +1,8 @@
 // The console's calls on the routing table.
 //
 // A part of the program `console`: its functions are proved to be safe and to end, and what they answer is tested with the program.
+#![tactic(auto)]
+
 use console_text::words::Words;
 use console_text::{answer, words};
 use hexadecimal::Decoded;
@@ -8,7 +10,7 @@ use routing_calls::{FailedAnswer, Failure, Standing};
 use routing_table::{Contact, ENTRIES, FindAnswer, Found, RECORD, REPLACEMENTS, RoutingTable};
 
 // The table to go on with, and the length of the answer.
-#[derive(Drop)]
+#[derive(Clone, Copy)]
 pub struct Reply {
     pub table: RoutingTable,
     pub len: usize,
@@ -46,7 +48,7 @@ pub fn seen(table: RoutingTable, line: &[u8], words: Words, out: &mut [u8]) -> R
 }
 
 // The contact that the words of a line name, if they do.
-#[derive(Drop)]
+#[derive(Clone, Copy)]
 struct Sighting {
     good: bool,
     contact: Contact,
@@ -73,7 +75,7 @@ fn sighting_of(line: &[u8], words: Words) -> Sighting {
 }
 
 // A node record, if the word is one of any length. The bytes of one of more than 300 are left out.
-#[derive(Drop)]
+#[derive(Clone, Copy)]
 struct NodeRecord {
     good: bool,
     len: usize,

@@ -5,7 +5,7 @@ use hexadecimal::Decoded;
 pub const MOST: usize = 40;
 
 // How many words a line has, and where each one ends. A line of more words has a count over MOST.
-#[derive(Drop)]
+#[derive(Clone, Copy)]
 pub struct Words {
     pub count: usize,
     pub ends: [usize; MOST],
@@ -106,7 +106,7 @@ fn unbar(c: u8) -> u8 {
 }
 
 // A value of 32 bytes, if the word is one.
-#[derive(Drop)]
+#[derive(Clone, Copy)]
 pub struct Bytes32 {
     pub good: bool,
     pub bytes: [u8; 32],
@@ -126,7 +126,7 @@ pub fn value(word: &[u8]) -> Bytes32 {
 }
 
 // Four bytes, if the word is so many.
-#[derive(Drop)]
+#[derive(Clone, Copy)]
 pub struct Bytes4 {
     pub good: bool,
     pub bytes: [u8; 4],
@@ -146,7 +146,7 @@ pub fn four(word: &[u8]) -> Bytes4 {
 }
 
 // A decimal number of 64 bits, with no zero in front.
-#[derive(Drop)]
+#[derive(Clone, Copy)]
 pub struct Decimal {
     pub good: bool,
     pub value: u64,

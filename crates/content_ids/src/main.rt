@@ -1,6 +1,8 @@
 // The key lister: reads lines of hexadecimal, one content key a line, and prints the content id of each, or why it is refused.
 //
 // What is printed for which line is decided in `key_lines`; here are the reads and the writes, in large blocks.
+#![tactic(auto)]
+
 ghost use Rattle.std.specs.Prelude.{◌≤◌, length};
 
 use key_lines::Line;

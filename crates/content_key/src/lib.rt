@@ -1,4 +1,6 @@
 // Content keys of the History Network: a key from any bytes, its block number, its content id, and the interest test.
+#![tactic(auto)]
+
 ghost use Rattle.std.specs.Prelude.{◌≡◌};
 ghost use Rattle.refusal.specs.Outcome.{outcome, or_zeros};
 ghost use Rattle.content_key.specs.Key.{block_of, key_of, key_id, content_id_of, interested_in, interest_of};
@@ -8,20 +10,20 @@ use refusal::{Checked, Refusal};
 mod reversed_bytes;
 
 // A key of nine bytes where the input is one, and zeros beside the refusal where it is not.
-#[derive(Drop)]
+#[derive(Clone, Copy)]
 pub struct KeyAnswer {
     pub checked: Checked,
     pub key: [u8; 9],
 }
 
 // A content id, or zeros beside the refusal.
-#[derive(Drop)]
+#[derive(Clone, Copy)]
 pub struct IdAnswer {
     pub checked: Checked,
     pub id: [u8; 32],
 }
 
-#[derive(Drop)]
+#[derive(Clone, Copy)]
 pub enum Interest {
     Yes,
     No,

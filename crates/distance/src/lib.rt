@@ -1,6 +1,8 @@
 // Distances between 32-byte values: exclusive or, order heaviest byte first, a radius, the log distance and what asks for it.
 //
 // Ids, radii and distances are arrays of 32 bytes by value, the first byte heaviest.
+#![tactic(auto)]
+
 ghost use Rattle.std.specs.Prelude.{◌≡◌, leb};
 ghost use Rattle.octets.specs.Bytes.{be};
 ghost use Rattle.distance.specs.Distance.{xor_of, within_of, log_distance_of, asked_of};

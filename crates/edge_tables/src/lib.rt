@@ -1,4 +1,6 @@
 // Routing tables around one own id, made place by place, so that they may break any rule: for the programs that hand them in.
+#![tactic(auto)]
+
 use routing_table::{Contact, ENTRIES, Entry, RECORD, REPLACEMENTS, RoutingTable};
 
 // The id that differs from our own by a and b in its last two bytes: where a is not 0, its log distance is 8 and the bit length of a.

@@ -1,4 +1,6 @@
 // The root of an epoch's records, and the proof of each position.
+#![tactic(auto)]
+
 ghost use Rattle.std.specs.Prelude.{◌*◌, ◌<◌, ◌≤◌, ◌≡◌, true, length};
 ghost use Rattle.refusal.specs.Buffer.{Writes};
 ghost use Rattle.accumulator.specs.Tree.{tree_node, empty_node, beside};

@@ -1,4 +1,6 @@
 // A door for benches in other languages: calls on headers, each as it stands.
+#![tactic(auto)]
+
 use refusal::Wrote;
 
 // Puts the SHA-256 hash of a message at the start of a buffer of 32 bytes or more.

@@ -1,11 +1,13 @@
 // Lower-case hexadecimal digits, both ways.
+#![tactic(auto)]
+
 ghost use Rattle.std.specs.Prelude.{◌<◌, ◌≡◌, true};
 ghost use Rattle.hexadecimal.specs.Digits.{digit_of, value_of, text_of, is_digit, number_of, all_digits};
 ghost use Rattle.octets.specs.Buffer.{has_room};
 ghost use Rattle.hexadecimal.specs.Buffer.{encoded_to, decoded_of, filled_of};
 
 // What a character stands for.
-#[derive(Drop)]
+#[derive(Clone, Copy)]
 pub enum Digit {
     Value(u8),
     Other,
@@ -45,7 +47,7 @@ pub fn encode(bytes: &[u8], out: &mut [u8], at: usize) -> bool
 }
 
 // What a text of digits stands for.
-#[derive(Drop)]
+#[derive(Clone, Copy)]
 pub enum Decoded {
     // So many bytes, which are now at the start of the buffer.
     Bytes(usize),

@@ -1,4 +1,6 @@
 // A door for benches in other languages: one call on an index of some size, many times over.
+#![tactic(auto)]
+
 use key_index::KeyIndex;
 use key_store::Stored;
 use refusal::{Checked, Wrote};

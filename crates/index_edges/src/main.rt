@@ -1,4 +1,6 @@
 // Hands in indexes that no call makes, broken ones and ones that differ in unused places only, and prints what each call answers.
+#![tactic(auto)]
+
 use console_text::{answer, words};
 use key_index::{Holding, KeyIndex};
 use key_store::Stored;

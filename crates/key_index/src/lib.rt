@@ -1,4 +1,6 @@
 // The key index: a node id, a radius cap and the keys held, nearest first, in a flat array.
+#![tactic(auto)]
+
 ghost use Rattle.std.specs.Prelude.{◌≡◌};
 ghost use Rattle.refusal.specs.Outcome.{outcome, or_zeros};
 ghost use Rattle.distance.specs.Distance.{xor_of};
@@ -17,7 +19,7 @@ pub const LIMIT: usize = 3000;
 pub const WIDTH: usize = 9;
 
 // The first `count` keys of the array are held, in order; all other bytes of it mean nothing.
-#[derive(Drop)]
+#[derive(Clone, Copy)]
 pub struct KeyIndex {
     pub node: [u8; 32],
     pub cap: [u8; 32],
@@ -26,13 +28,13 @@ pub struct KeyIndex {
 }
 
 // A radius, or zeros beside the refusal.
-#[derive(Drop)]
+#[derive(Clone, Copy)]
 pub struct RadiusAnswer {
     pub checked: Checked,
     pub radius: [u8; 32],
 }
 
-#[derive(Drop)]
+#[derive(Clone, Copy)]
 pub enum Holding {
     Yes,
     No,
@@ -40,7 +42,7 @@ pub enum Holding {
 }
 
 // Where a key stands among others.
-#[derive(Drop)]
+#[derive(Clone, Copy)]
 pub enum Place {
     At(usize),
     Nothing,

@@ -2,6 +2,8 @@
 //
 // A line may have any length. Of a line that has begun only its first 18 characters are kept, with whether its length is odd or over
 // 18 and whether a character was no digit.
+#![tactic(auto)]
+
 ghost use Rattle.std.specs.Prelude.{ℕ, ◌+◌, ◌≤◌, ◌≡◌, ◌||◌, not, List, [], ◌++◌, length, drop};
 ghost use Rattle.refusal.specs.Says.{says_of};
 ghost use Rattle.refusal.specs.Outcome.{given, refusal};
@@ -14,7 +16,7 @@ use hexadecimal::Digit;
 use refusal::{Checked, Refusal};
 
 // A line that has begun. Its fields are private: every value is one that `fresh` or `list` made, so it stands for some text.
-#[derive(Drop)]
+#[derive(Clone, Copy)]
 pub struct Line {
     first: [u8; 18],
     len: usize,
@@ -22,14 +24,14 @@ pub struct Line {
 }
 
 // What is printed: the first `len` bytes of `text`. Line feeds fill the rest.
-#[derive(Drop)]
+#[derive(Clone, Copy)]
 pub struct Printed {
     pub text: [u8; 65],
     pub len: usize,
 }
 
 // How far a call of `list` came: the line that has begun, how much of the input was used, and how much of the buffer was written.
-#[derive(Drop)]
+#[derive(Clone, Copy)]
 pub struct Listed {
     pub line: Line,
     pub used: usize,

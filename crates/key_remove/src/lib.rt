@@ -1,4 +1,6 @@
 // Removing a key from the index.
+#![tactic(auto)]
+
 ghost use Rattle.std.specs.Prelude.{◌-◌, ◌*◌, ◌≤◌, ◌<◌, ◌≡◌, length};
 ghost use Rattle.key_index.specs.View.{key_limit, view_of, chunks};
 ghost use Rattle.key_remove.specs.Remove.{without_at};
@@ -9,14 +11,14 @@ use key_index::{KeyIndex, Place, WIDTH};
 use refusal::{Checked, Refusal};
 
 // The answer, and the index to go on with: the very one handed in where the call is refused.
-#[derive(Drop)]
+#[derive(Clone, Copy)]
 pub struct RemoveAnswer {
     pub checked: Checked,
     pub index: KeyIndex,
 }
 
 // What is known of a remove call before anything is changed: why it is refused, or the place of the key.
-#[derive(Drop)]
+#[derive(Clone, Copy)]
 enum Sought {
     Refused(Refusal),
     At(usize),

@@ -1,4 +1,6 @@
 // Storing a key in the index, where its block is known.
+#![tactic(auto)]
+
 ghost use Rattle.std.specs.Prelude.{◌*◌, ◌≤◌, ◌<◌, ◌≡◌, true, length, replicate};
 ghost use Rattle.octets.specs.Bytes.{be};
 ghost use Rattle.rlp.specs.Answer.{examined_as};
@@ -14,7 +16,7 @@ use refusal::{Checked, Refusal};
 use rlp::{Examined, Payload};
 
 // An accepted call hands on where the payload stands in the content.
-#[derive(Drop)]
+#[derive(Clone, Copy)]
 pub enum Stored {
     Kept(Payload),
     // Stored in the place of the farthest key, which is named beside the answer.
@@ -23,7 +25,7 @@ pub enum Stored {
 }
 
 // The answer, the key that left or zeros, and the index to go on with: the very one handed in where the call is refused.
-#[derive(Drop)]
+#[derive(Clone, Copy)]
 pub struct StoreAnswer {
     pub stored: Stored,
     pub evicted: [u8; 9],
@@ -31,14 +33,14 @@ pub struct StoreAnswer {
 }
 
 // What is known of a store call before anything is changed: why it is refused, or the key's place among those held, and the payload's.
-#[derive(Drop)]
+#[derive(Clone, Copy)]
 enum Verdict {
     Refused(Refusal),
     At(usize, Payload),
 }
 
 // A verdict, and the key that the bytes are; zeros where the call is refused.
-#[derive(Drop)]
+#[derive(Clone, Copy)]
 struct Judged {
     verdict: Verdict,
     key: [u8; 9],

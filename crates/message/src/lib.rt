@@ -1,8 +1,10 @@
 // The nine messages as values, their SSZ bytes and the rules on them: the definitions that reading and writing meet.
+#![tactic(auto)]
+
 use refusal::Refusal;
 
 // Which message was read, or why it is refused.
-#[derive(Drop)]
+#[derive(Clone, Copy)]
 pub enum Kind {
     Ping,
     Pong,
@@ -17,7 +19,7 @@ pub enum Kind {
 }
 
 // A message that was read. Variable parts are places in the bytes read; what a kind does not use is zero.
-#[derive(Drop)]
+#[derive(Clone, Copy)]
 pub struct Reading {
     pub kind: Kind,
     // Ping, Pong: the radius, heaviest byte first.

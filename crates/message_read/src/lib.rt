@@ -1,4 +1,6 @@
 // Reads any bytes as one of the nine messages.
+#![tactic(auto)]
+
 ghost use Rattle.std.specs.Prelude.{◌≤◌, ◌≡◌, drop};
 ghost use Rattle.message.specs.Decode.{two_offsets, layout_of, ruled_or4, decode};
 ghost use Rattle.message.specs.Report.{blank_of, with_part, with_places};

@@ -1,4 +1,6 @@
 // The list of records in a message, for FoundNodes and FoundContent: its layout, the number of records, and the rules on them.
+#![tactic(auto)]
+
 ghost use Rattle.std.specs.Prelude.{◌+◌, ◌*◌, ◌≤◌, ◌≡◌, true, length};
 ghost use Rattle.message.specs.Records.{offsets_of, ordered};
 ghost use Rattle.message.specs.Reading.{part_at};
@@ -6,7 +8,7 @@ ghost use Rattle.message_records.specs.Found.{RecordsIn};
 ghost use Rattle.message_records.specs.Places.{nothing, laid_count, offset_at, places_at};
 
 // What the list comes to.
-#[derive(Drop)]
+#[derive(Clone, Copy)]
 pub enum Verdict {
     // The layout is broken.
     Broken,
@@ -18,7 +20,7 @@ pub enum Verdict {
 }
 
 // The verdict, and where the records are in the message if it is good.
-#[derive(Drop)]
+#[derive(Clone, Copy)]
 pub struct Records {
     pub verdict: Verdict,
     pub count: usize,

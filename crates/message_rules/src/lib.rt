@@ -1,4 +1,6 @@
 // What reading and writing a message share: an offset, how many things are present, distances that are all different, and good records.
+#![tactic(auto)]
+
 ghost use Rattle.std.specs.Prelude.{◌≤◌, ◌<◌, ◌≡◌, not, eqb, length, take, drop};
 ghost use Rattle.message.specs.Records.{offset_of};
 ghost use Rattle.message.specs.Rules.{all_different, same_bytes, one};

@@ -1,4 +1,6 @@
 // Writes the nine messages into a buffer that the caller lends. Nothing is written before everything is tested.
+#![tactic(auto)]
+
 ghost use Rattle.std.specs.Prelude.{ℕ, List, length};
 ghost use Rattle.refusal.specs.Buffer.{Writes};
 ghost use Rattle.message.specs.Values.{find_node, found_nodes, found_content, store};
@@ -13,14 +15,14 @@ mod parts;
 mod records;
 
 // The messages that carry a radius.
-#[derive(Drop)]
+#[derive(Clone, Copy)]
 pub enum Probe {
     Ping,
     Pong,
 }
 
 // The messages that carry a key.
-#[derive(Drop)]
+#[derive(Clone, Copy)]
 pub enum KeyMessage {
     FindContent,
     Offer,

@@ -6,7 +6,7 @@ ghost use Rattle.message_write.specs.Lent.{unlent_of, LentTo};
 use refusal::{Checked, Refusal};
 
 // The places of records that are lent, if they are accepted.
-#[derive(Drop)]
+#[derive(Clone, Copy)]
 pub(crate) struct Lent {
     pub(crate) checked: Checked,
     pub(crate) count: usize,

@@ -1,4 +1,6 @@
 // Bytes: the numbers that lists of them stand for, their order, and the small functions on them that several crates use.
+#![tactic(auto)]
+
 ghost use Rattle.std.specs.Prelude.{◌+◌, ◌<◌, ◌≡◌, reverse, length, get_or};
 ghost use Rattle.octets.specs.Bytes.{le};
 ghost use Rattle.octets.specs.Equal.{same_bytes};

@@ -1,9 +1,11 @@
 // The table of refusals: one enum for every number that a call gives back instead of an answer.
+#![tactic(auto)]
+
 ghost use Rattle.std.specs.Prelude.{◌≡◌};
 ghost use Rattle.refusal.specs.Says.{number_of};
 
 // Why a call is refused, in the order of the numbers: 0 to 17, 20 to 25, 29.
-#[derive(Drop)]
+#[derive(Clone, Copy)]
 pub enum Refusal {
     // The index or the routing table handed in breaks its rules.
     BadState,
@@ -58,14 +60,14 @@ pub enum Refusal {
 }
 
 // Whether an input was accepted, beside whatever an accepted one gives.
-#[derive(Drop)]
+#[derive(Clone, Copy)]
 pub enum Checked {
     Accepted,
     Refused(Refusal),
 }
 
 // How many bytes a call wrote at the start of a buffer lent to it, or why none.
-#[derive(Drop)]
+#[derive(Clone, Copy)]
 pub enum Wrote {
     Bytes(usize),
     Refused(Refusal),

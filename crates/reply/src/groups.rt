@@ -3,14 +3,14 @@ ghost use Rattle.std.specs.Prelude.{◌≤◌, length};
 ghost use Rattle.reply.specs.Ready.{Small, First, Planned};
 
 // The records of a message: how many it takes, and its size with them.
-#[derive(Drop)]
+#[derive(Clone, Copy)]
 pub(crate) struct Group {
     pub(crate) taken: usize,
     pub(crate) size: usize,
 }
 
 // All messages: how many, and their size together.
-#[derive(Drop)]
+#[derive(Clone, Copy)]
 pub(crate) struct Spread {
     pub(crate) count: usize,
     pub(crate) size: usize,

@@ -1,4 +1,6 @@
 // Replies to a neighbour who asks: from the index, the routing table and what the caller lends, all messages of the reply end to end.
+#![tactic(auto)]
+
 ghost use Rattle.std.specs.Prelude.{◌≡◌, true, ◌||◌, eqb, length};
 ghost use Rattle.message.specs.Decode.{decode};
 ghost use Rattle.key_index.specs.View as keys;
@@ -21,14 +23,14 @@ mod nodes;
 pub const MESSAGES: usize = 33;
 
 // How many messages were written, or why none.
-#[derive(Drop)]
+#[derive(Clone, Copy)]
 pub enum Replied {
     Messages(usize),
     Refused(Refusal),
 }
 
 // The answer, and the length of each message: zeros behind the last, and where the call is refused.
-#[derive(Drop)]
+#[derive(Clone, Copy)]
 pub struct ReplyAnswer {
     pub replied: Replied,
     pub lens: [usize; MESSAGES],

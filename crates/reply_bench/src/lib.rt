@@ -1,4 +1,6 @@
 // A door for benches in other languages: replies from a full table of records of 300 bytes, many times over.
+#![tactic(auto)]
+
 ghost use Rattle.std.specs.Prelude.{◌≤◌, ◌<◌};
 
 use key_index::KeyIndex;

@@ -11,7 +11,7 @@ use routing_table::RoutingTable;
 const BUFFER: usize = 1024;
 
 // What a request is made of: the index, the table, whether our own record and content are lent, and how many bytes of the buffer.
-#[derive(Drop)]
+#[derive(Clone, Copy)]
 pub struct Setting {
     pub index: KeyIndex,
     pub table: RoutingTable,

@@ -1,5 +1,7 @@
 // Hands in indexes and routing tables that no call makes, broken ones and ones that differ in unused places only, and buffers of several
 // lengths, and prints each reply and what it leaves of the buffer.
+#![tactic(auto)]
+
 mod calls;
 
 use calls::Setting;

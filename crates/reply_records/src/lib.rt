@@ -1,4 +1,6 @@
 // The records of a reply, copied out of the routing table: those that a request is after, in the order of sending, each once.
+#![tactic(auto)]
+
 ghost use Rattle.std.specs.Prelude.{◌≤◌, [], ◌∷◌, map};
 ghost use Rattle.routing_table.specs.View.{view};
 ghost use Rattle.replies.specs.Chosen.{nearest_by, entry_record};
@@ -16,7 +18,7 @@ mod ranks;
 pub const RECORDS: usize = 1 + ENTRIES;
 
 // The first `count` records: where each starts in the bytes, and how long it is.
-#[derive(Drop)]
+#[derive(Clone, Copy)]
 pub struct Records {
     pub count: usize,
     pub starts: [usize; RECORDS],

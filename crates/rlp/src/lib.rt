@@ -1,4 +1,6 @@
 // The outer list of content: whether bytes are one RLP list that fills them, and where its payload stands.
+#![tactic(auto)]
+
 ghost use Rattle.std.specs.Prelude.{◌≤◌, ◌≡◌, length, take};
 ghost use Rattle.octets.specs.Bytes.{be};
 ghost use Rattle.rlp.specs.Content.{long_header, header_in, filled, content_of};
@@ -7,21 +9,21 @@ ghost use Rattle.rlp.specs.Answer.{examined_as};
 use refusal::Refusal;
 
 // Where a list's payload stands in its content.
-#[derive(Drop)]
+#[derive(Clone, Copy)]
 pub struct Payload {
     pub start: usize,
     pub len: usize,
 }
 
 // What content is: a list, with the place of its payload, or why not.
-#[derive(Drop)]
+#[derive(Clone, Copy)]
 pub enum Examined {
     Accepted(Payload),
     Refused(Refusal),
 }
 
 // What content begins with: no header of a list in the shortest form; one that ends before it is whole; one that gives its payload's place.
-#[derive(Drop)]
+#[derive(Clone, Copy)]
 enum Header {
     Wrong,
     Cut,

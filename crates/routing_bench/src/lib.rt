@@ -1,4 +1,6 @@
 // A door for benches in other languages: sightings and failures on a full table with all its replacements, many times over.
+#![tactic(auto)]
+
 ghost use Rattle.std.specs.Prelude.{◌≤◌};
 
 use routing_table::{Contact, RECORD, RoutingTable};

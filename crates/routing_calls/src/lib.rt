@@ -1,4 +1,6 @@
 // The calls that change a routing table: a node was seen, a node failed.
+#![tactic(auto)]
+
 mod changes;
 mod failing;
 mod seeing;
@@ -9,7 +11,7 @@ use routing_table::RoutingTable;
 pub use seeing::seen;
 
 // Where a node stands once it was seen.
-#[derive(Drop)]
+#[derive(Clone, Copy)]
 pub enum Standing {
     Entry,
     Replacement,
@@ -17,14 +19,14 @@ pub enum Standing {
 }
 
 // The answer, and the table to go on with: the very one handed in where the call is refused.
-#[derive(Drop)]
+#[derive(Clone, Copy)]
 pub struct SeenAnswer {
     pub standing: Standing,
     pub table: RoutingTable,
 }
 
 // What became of an entry that failed.
-#[derive(Drop)]
+#[derive(Clone, Copy)]
 pub enum Failure {
     // So many failures in a row, fewer than three.
     Counted(u8),
@@ -37,7 +39,7 @@ pub enum Failure {
 
 // The answer, the id of the replacement that became an entry or zeros, and the table to go on with: the very one handed in where the
 // call is refused.
-#[derive(Drop)]
+#[derive(Clone, Copy)]
 pub struct FailedAnswer {
     pub failure: Failure,
     pub by: [u8; 32],

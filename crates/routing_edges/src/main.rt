@@ -1,4 +1,6 @@
 // Hands in routing tables that no call makes, broken ones and ones that differ in unused places only, and prints what each call answers.
+#![tactic(auto)]
+
 mod same;
 
 use console_text::{answer, words};

@@ -1,4 +1,6 @@
 // The routing table: whom the node has met, around its own id; its types and rules, a fresh one, and the look-up of an id.
+#![tactic(auto)]
+
 mod rules;
 mod scans;
 mod surveys;
@@ -31,7 +33,7 @@ pub const RECORD: usize = 300;
 
 // A node that was seen: its id, its radius, its IPv4 address, its port and its node record, which is the first `len` bytes of `enr`. The
 // bytes behind them mean nothing.
-#[derive(Drop)]
+#[derive(Clone, Copy)]
 pub struct Contact {
     pub id: [u8; 32],
     pub radius: [u8; 32],
@@ -42,7 +44,7 @@ pub struct Contact {
 }
 
 // A contact, and how often it failed since it was last seen or became an entry, counted up to three.
-#[derive(Drop)]
+#[derive(Clone, Copy)]
 pub struct Entry {
     pub contact: Contact,
     pub failures: u8,
@@ -50,7 +52,7 @@ pub struct Entry {
 
 // The node's own id; the first `count` entries, in an order that means nothing; the first `waiting` replacements, longest unseen first.
 // What stands in other places means nothing.
-#[derive(Drop)]
+#[derive(Clone, Copy)]
 pub struct RoutingTable {
     pub own: [u8; 32],
     pub count: usize,
@@ -61,7 +63,7 @@ pub struct RoutingTable {
 
 // What a call wants to know of a table and an id. Places are counted from 0, and one that is not there is the number of entries or
 // replacements. All is false and 0 where the table breaks its rules.
-#[derive(Drop)]
+#[derive(Clone, Copy)]
 pub struct Facts {
     // The table keeps its rules.
     pub good: bool,
@@ -79,7 +81,7 @@ pub struct Facts {
 }
 
 // How an id stands in a table.
-#[derive(Drop)]
+#[derive(Clone, Copy)]
 pub enum Found {
     Entry,
     Replacement,
@@ -88,7 +90,7 @@ pub enum Found {
 }
 
 // How the id stands, and its contact and failures: zeros where it has none.
-#[derive(Drop)]
+#[derive(Clone, Copy)]
 pub struct FindAnswer {
     pub found: Found,
     pub contact: Contact,

@@ -1,4 +1,6 @@
 // SHA-256 of any bytes, as FIPS 180-4 has it.
+#![tactic(auto)]
+
 ghost use Rattle.std.specs.Prelude.{◌*◌, ◌/◌, ◌%◌, ◌≡◌, ◌++◌, length, take};
 ghost use Rattle.octets.specs.Bytes.{be_bytes};
 ghost use Rattle.sha256_tables.specs.Tables.{start_words};

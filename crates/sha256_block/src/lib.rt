@@ -1,4 +1,6 @@
 // One block of SHA-256, as FIPS 180-4 has it: the schedule of 64 words, 64 rounds, and their sum with the state before.
+#![tactic(auto)]
+
 ghost use Rattle.std.specs.Prelude.{◌≡◌, ◌+◌, ◌≤◌, [], ◌∷◌, ◌++◌, length, replicate};
 ghost use Rattle.octets.specs.Bytes.{be};
 ghost use Rattle.sha256_tables.specs.Tables.{round_words};
@@ -7,7 +9,7 @@ ghost use Rattle.sha256_block.specs.Block.{first_words, next_of, schedule, T1, T
 use std::num::wrapping_add_u32;
 
 // The eight words that are carried from block to block, and the working variables of the rounds.
-#[derive(Drop)]
+#[derive(Clone, Copy)]
 pub struct State {
     pub a: u32,
     pub b: u32,

@@ -1,4 +1,6 @@
 // The constant words of SHA-256, from FIPS 180-4, and the rule of each table: the first 32 bits of the fractions of roots of primes.
+#![tactic(auto)]
+
 ghost use Rattle.std.specs.Prelude.{◌≡◌, map};
 ghost use Rattle.sha256_tables.specs.Primes.{first_primes};
 ghost use Rattle.sha256_tables.specs.Roots.{root_bits};

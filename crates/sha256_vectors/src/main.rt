@@ -1,5 +1,7 @@
 // Prints SHA-256 hashes, one a line: of the messages that FIPS 180-4 and its examples publish, then of every length up to 1,100, and
 // of those from 9 below to 9 above each multiple of 64 from there up to 16,384.
+#![tactic(auto)]
+
 use libc::STDOUT_FILENO;
 
 // As many bytes as the longest message has, but for the million.

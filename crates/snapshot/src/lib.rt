@@ -1,4 +1,6 @@
 // The saved form of the index: writing it, and reading it back.
+#![tactic(auto)]
+
 mod loading;
 mod saving;
 
@@ -17,7 +19,7 @@ const FIRST: usize = 135;
 const LINE: usize = 21;
 
 // The answer, and the index to go on with: the one that the text gives, or the very one handed in.
-#[derive(Drop)]
+#[derive(Clone, Copy)]
 pub struct ReloadAnswer {
     pub checked: Checked,
     pub index: KeyIndex,

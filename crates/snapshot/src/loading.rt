@@ -15,7 +15,7 @@ use refusal::{Checked, Refusal};
 const OLD_LIMIT: usize = 240;
 
 // The first line as it was read, and how many bytes one of its kind has; the rest counts only where it is good.
-#[derive(Drop)]
+#[derive(Clone, Copy)]
 struct Header {
     good: bool,
     node: [u8; 32],
@@ -25,7 +25,7 @@ struct Header {
 }
 
 // A key's line as it was read, with the key's distance; they count only where the line is good.
-#[derive(Drop)]
+#[derive(Clone, Copy)]
 struct KeyLine {
     good: bool,
     key: [u8; 9],
@@ -33,7 +33,7 @@ struct KeyLine {
 }
 
 // What a text gives beside its keys: the number of its first bad line, or 0 and what its first line says.
-#[derive(Drop)]
+#[derive(Clone, Copy)]
 struct Loaded {
     bad: usize,
     node: [u8; 32],

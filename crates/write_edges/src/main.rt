@@ -1,4 +1,6 @@
 // Hands the write calls records that the console's words cannot name, and prints each answer with the buffer before and after it.
+#![tactic(auto)]
+
 use console_text::{answer, words};
 use libc::STDOUT_FILENO;
 use refusal::Wrote;

@@ -1,0 +1,10 @@
+-- `content_ids::list_input` is safe and ends: the turns fall, and the lent buffers keep their lengths. Assumes nothing.
+use mathlib.Core.Path.{◌≡◌}
+use lib.ListN.{length}
+use Rattle.content_ids.proofs.list_input.Given as goal
+
+abbrev pub invariant-loop-turns : goal.invariant-loop-turns
+invariant-loop-turns l = (length l.input ≡ length l.initial.input) × (length l.out ≡ length l.initial.out)
+
+abbrev pub decreases-loop-turns : goal.decreases-loop-turns
+decreases-loop-turns l = l.turns

@@ -1,0 +1,34 @@
+-- `epoch_tree::proof` meets its contract: the tests in their order, and then the siblings at the start of the buffer. Assumes nothing.
+use Prim.Native.Nat.{◌<◌}
+use native.Mathlib.Omega.{arith}
+use mathlib.Core.Path.{◌≡◌, sym, ◌∙◌}
+use mathlib.Core.Bool.{true}
+use borrow.Author.Rules.{rules}
+use borrow.Author.Tests.{not-true, not-false}
+use Rattle.accumulator.specs.Records.{are_records, record_count}
+use Rattle.epoch_tree.proofs.Answers.{proof_length, proof_nowhere, proof_short, proof_written}
+use Rattle.epoch_tree.proofs.proof.Goals as goal
+
+-- past the first test the bytes are records
+good : (c : goal.Else-not-are_records) → are_records c.args.records.now ≡ true
+good c = sym c.are_records.ensures ∙ not-false _ c.if-not-are_records.false-raw
+
+-- past the second there is one at the position
+there : (c : goal.Else-count-position) → let a = c.args in a.position < record_count a.records.now
+there c = omega (arith, c.if-count-position.false)
+
+pub returns-then-not-are_records : goal.returns-then-not-are_records
+returns-then-not-are_records c = proof_length _ _ (sym c.are_records.ensures ∙ not-true _ c.if-not-are_records.true-raw) _ (search rules) _
+
+pub returns-then-count-position : goal.returns-then-count-position
+returns-then-count-position c = proof_nowhere _ _ (good c.before) (omega (arith, c.if-count-position.true)) _ (search rules) _
+
+pub returns-then-out-lt-PROOF : goal.returns-then-out-lt-PROOF
+returns-then-out-lt-PROOF c = proof_short _ _ (good c.before.before) (there c.before) _ (search rules) _ (search rules)
+
+pub siblings-siblings-requires : goal.siblings-siblings-requires
+siblings-siblings-requires c κs = (good c.before.before, there c.before)
+
+pub returns : goal.returns
+returns c =
+    proof_written _ _ (good c.before.before.before.before.before.before.before.before) (there c.before.before.before.before.before.before.before) _ (search rules) _ _ _ (search rules) c.put.ensures.out_after c.siblings-siblings.ensures

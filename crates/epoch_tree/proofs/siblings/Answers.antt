@@ -1,0 +1,35 @@
+-- `epoch_tree::siblings` meets its contract. The invariant: the array has the siblings below the height and then zeros, and those that are left
+-- are the ones of the node at that height and of the nodes above it. The measure is how many heights are left. Assumes nothing.
+use native.Mathlib.Omega.{arith}
+use mathlib.Core.Path.{refl, ap, ◌∙◌}
+use borrow.Author.Rules.{rules}
+use Rattle.accumulator.specs.Tree.{tree_node}
+use Rattle.accumulator.specs.Records.{record_root}
+use Rattle.accumulator.proofs.Epochs.{lengths, difficulty_read}
+use Rattle.epoch_tree.proofs.Branches.{written_first, written_next, written_last}
+use Rattle.epoch_tree.proofs.siblings.Goals as goal
+
+pub loop-height-init : goal.loop-height-init
+loop-height-init c =
+    let most = (lengths c.args.records.now c.requires.records_value).most in
+    (search rules, omega arith, search rules, written_first _ _ c.requires.position_bound _ 0 c.part32-difficulty.result c.put.ensures.out_after refl (difficulty_read _ _ c.requires.position_bound _ _ c.part32-difficulty.ensures (search rules)))
+
+pub node-sibling-requires : goal.node-sibling-requires
+node-sibling-requires c κs = (c.requires.records_value, search rules)
+
+pub loop-height-preserved : goal.loop-height-preserved
+loop-height-preserved c = (
+  search rules,
+  search rules,
+  search rules,
+  written_next _ _ _ _ _ (search rules) c.loop-height.invariant.3 _ _ _ c.put-in-loop-height.ensures.out_after (search rules)
+      (c.node-sibling.ensures ∙ ap (tree_node (record_root _) c.loop-height.height) c.beside.ensures),
+)
+
+pub count_chunk-count-requires : goal.count_chunk-count-requires
+count_chunk-count-requires c κs = c.requires.records_value
+
+pub returns : goal.returns
+returns c =
+    let at = c.loop-height in
+    written_last _ _ at.height at.place at.out (omega arith) at.invariant.3 _ 448 c.count_chunk-count.result c.put-2.ensures.out_after refl (search rules)

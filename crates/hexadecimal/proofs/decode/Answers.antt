@@ -1,0 +1,65 @@
+-- `hex::decode` meets its contract. Past the tests the text is an even number of digits, so it stands for the bytes of its pairs.
+-- The loop's invariant: the buffer starts with the first i of these bytes. Each turn is the law `put_byte`; a refusal comes before any store.
+-- Assumes nothing.
+use Prim.Native.Nat.{◌+◌, ◌*◌, ◌/◌}
+use mathlib.Core.Bool.{true}
+use mathlib.Core.Option.{some}
+use mathlib.Core.Path.{◌≡◌, sym, ◌∙◌}
+use borrow.Author.Rules.{rules}
+use borrow.Author.Tests.{not-true, not-false}
+use lib.ListN.{length, length-set}
+use Rattle.hexadecimal.specs.Digits.{bytes_of, all_digits}
+use Rattle.hexadecimal.proofs.Texts.{pairs_of, bytes_of_pairs, no_bytes_other, no_bytes_odd}
+use Rattle.hexadecimal.proofs.Passes.{digit_at, put_byte, length_pairs, not_hex, no_room, put_all}
+use Rattle.hexadecimal.proofs.decode.Goals as goal
+
+-- past the second test all characters are digits
+all : (c : goal.Else-not-all_digits) → all_digits c.args.text.now ≡ true
+all c = sym c.all_digits.ensures ∙ not-false _ c.if-not-all_digits.false-raw
+
+-- so the text stands for bytes
+bytes : (c : goal.Else-not-all_digits)
+    → bytes_of c.args.text.now ≡ some (pairs_of c.args.text.now)
+bytes c = bytes_of_pairs c.args.text.now (all c) (search rules)
+
+pub returns-then-text-ne0 : goal.returns-then-text-ne0
+returns-then-text-ne0 c =
+    let a = c.args in
+    not_hex a.text.now a.out.now (no_bytes_odd a.text.now (search rules))
+
+pub returns-then-not-all_digits : goal.returns-then-not-all_digits
+returns-then-not-all_digits c =
+    let a = c.args in
+    let other = sym c.all_digits.ensures ∙ not-true _ c.if-not-all_digits.true-raw in
+    not_hex a.text.now a.out.now (no_bytes_other a.text.now other)
+
+pub returns-then-out-count : goal.returns-then-out-count
+returns-then-out-count c =
+    let a = c.args in
+    let n = length_pairs a.text.now in
+    no_room a.text.now a.out.now (pairs_of a.text.now) (bytes c.before) (search rules)
+
+pub number-high-requires : goal.number-high-requires
+number-high-requires c κs =
+    digit_at c.args.text.now (2 * c.loop-i.i) (search rules) (all c.before.before.before.before)
+
+pub number-low-requires : goal.number-low-requires
+number-low-requires c κs =
+    digit_at c.args.text.now (2 * c.loop-i.i + 1) (search rules) (all c.before.before.before.before.before.before)
+
+pub loop-i-preserved : goal.loop-i-preserved
+loop-i-preserved c =
+    let a = c.args in (
+      search rules,
+      simp length-set (search rules),
+      put_byte a.out.now a.text.now c.loop-i.i (search rules) (search rules) c.loop-i.out c.loop-i.invariant.2
+          c.number-high.result c.number-low.result c.number-high.ensures.0 c.number-low.ensures.0 _ (search rules),
+    )
+
+pub returns : goal.returns
+returns c =
+    let a = c.args in
+    let n = length_pairs a.text.now in
+    let done = put_all a.text.now a.out.now (pairs_of a.text.now) (length a.text.now / 2) c.loop-i.i
+    (search rules) (search rules) (bytes c.before.before.before) (search rules) in
+    record { value = done.0; out_after = c.loop-i.invariant.2 ∙ done.1 }

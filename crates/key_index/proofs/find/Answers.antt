@@ -1,0 +1,97 @@
+-- `key_index::find` meets its contract. The invariant: the place of the key among all keys is its place among those from i on. A key
+-- with its bytes ends the search, another one leaves it to the rest, and where fewer than nine bytes are left no key has them. The measure
+-- is what is left of the count. Assumes nothing.
+use Prim.Native.Nat.{ℕ, zero, suc, ◌+◌, ◌-◌, ◌*◌, ◌/◌, ◌≤◌, ◌<◌}
+use native.Mathlib.Numerals.{add-one}
+use native.Mathlib.Omega.{arith}
+use mathlib.Core.Path.{◌≡◌, refl, sym, ap, ◌∙◌}
+use mathlib.Core.Bool.{Bool, true, false, cond}
+use mathlib.Core.List.{List}
+use lib.ListN.{length, take, drop, length-take, length-drop}
+use borrow.Author.Rules.{rules}
+use Rattle.octets.specs.Equal.{same_bytes}
+use Rattle.octets.proofs.Equal.{differ_same}
+use Rattle.key_index.specs.View.{chunks, key_at}
+use Rattle.key_index.specs.Search.{place_from}
+use Rattle.key_index.specs.declared.Place.{Place}
+use Rattle.key_index.specs.declared.Place.TheVariants.{At, Nothing}
+use Rattle.key_index.proofs.Chunks.{chunks_rest, key_at_in}
+use Rattle.key_index.proofs.find.Goals as goal
+
+-- the place among the keys from i on
+abbrev rest : List ℕ → ℕ → List ℕ → ℕ → Place
+rest keys count key i = place_from i key (chunks (count - i) (drop (9 * i) keys))
+
+-- a turn, in which `k` was read and `test` is what the comparison says
+record Turn (keys : List ℕ) (count : ℕ) (key : List ℕ) (i : ℕ) (k : List ℕ) (test : Bool) : Type 0 where
+  more : i < count
+  whole : i < length keys / 9
+  read : k ≡ key_at keys i
+  is : test ≡ same_bytes key k
+
+module _ {keys : List ℕ} {count : ℕ} {key : List ℕ} {i : ℕ} {k : List ℕ} {test : Bool} (t : Turn keys count key i k test) where
+  split : rest keys count key i ≡ cond test (At i) (place_from (suc i) key (chunks (count - suc i) (drop (9 * suc i) keys)))
+  unfolding place_from
+  split =
+      ap (place_from i key) (chunks_rest count i keys t.more)
+      ∙ ap (λ (b : Bool). cond b (At i) (place_from (suc i) key (chunks (count - suc i) (drop (9 * suc i) keys))))
+      (ap (same_bytes key) (sym (t.read ∙ key_at_in keys i (omega (arith, t.whole)))) ∙ sym t.is)
+
+  here : test ≡ true → rest keys count key i ≡ At i
+  here e = split ∙ rw e
+
+  later : test ≡ false → rest keys count key i ≡ rest keys count key (i + 1)
+  later e = rw add-one (split ∙ rw e)
+
+-- no key has the bytes where fewer than nine are left
+none : (n i : ℕ) (key b : List ℕ) → length key ≡ 9 → length b < 9 → place_from i key (chunks n b) ≡ Nothing
+unfolding place_from chunks
+none zero i key b l h = refl
+none (suc n) i key b l h =
+    rw (differ_same key (take 9 b) (λ e. omega (arith, ap length e, length-take 9 b)))
+    (none n (suc i) key (drop 9 b) l (omega (arith, length-drop 9 b)))
+
+short : (keys : List ℕ) (count : ℕ) (key : List ℕ) (i : ℕ) → length key ≡ 9 → length keys / 9 ≤ i → rest keys count key i ≡ Nothing
+short keys count key i l h = none (count - i) i key (drop (9 * i) keys) l (omega (arith, length-drop (9 * i) keys))
+
+-- nothing is left at the end
+over : (keys : List ℕ) (count : ℕ) (key : List ℕ) (i : ℕ) → count ≤ i → rest keys count key i ≡ Nothing
+unfolding place_from chunks
+over keys count key i h =
+    let e : count - i ≡ 0 = omega arith in
+    ap (λ (n : ℕ). place_from i key (chunks n (drop (9 * i) keys))) e
+
+start : (keys : List ℕ) (count : ℕ) (key : List ℕ) → place_from 0 key (chunks count keys) ≡ rest keys count key 0
+start keys count key =
+    let e : count ≡ count - 0 = omega arith in
+    ap (λ (n : ℕ). place_from 0 key (chunks n keys)) e
+
+nine : (c : goal.Start) → length c.args.key ≡ 9
+nine c = search rules
+
+-- the loop's head, from where a turn has compared
+abbrev head : goal.After-same → goal.At-loop-i
+head c = c.before.before.before.before.before.before
+
+turn : (c : goal.After-same)
+    → Turn (head c).args.keys.now (head c).args.count (head c).args.key (head c).loop-i.i
+    c.key_at-held.result c.same.result
+turn c =
+    record { more = search rules; whole = search rules; read = c.key_at-held.ensures; is = c.same.ensures }
+
+pub loop-i-init : goal.loop-i-init
+loop-i-init c = (search rules, start _ _ _)
+
+pub returns-then-whole-i : goal.returns-then-whole-i
+returns-then-whole-i c =
+    sym (c.loop-i.invariant.1 ∙ short _ _ _ c.loop-i.i (nine c.before.before.before.before) (search rules))
+
+pub returns-then-same : goal.returns-then-same
+returns-then-same c = sym ((head c.before).loop-i.inv.1 ∙ here (turn c.before) c.if-same.true)
+
+pub loop-i-preserved : goal.loop-i-preserved
+loop-i-preserved c = (search rules, (head c.before).loop-i.inv.1 ∙ later (turn c.before) c.if-same.false)
+
+pub returns : goal.returns
+returns c =
+    sym (c.loop-i.invariant.1 ∙ over _ _ _ c.loop-i.i (search rules))

@@ -1,0 +1,47 @@
+-- `key_lines::feed` meets its contract. The invariant: the state stands for the text with the first `i` characters of the part. A turn is the
+-- law `stored` or `passed`, by whether there was room. The measure is what is left of the part. Assumes nothing.
+use Prim.Native.Nat.{ℕ, ◌<◌}
+use mathlib.Core.List.{List, ◌++◌, append-nil}
+use mathlib.Core.Path.{◌≡◌, ◌∙◌, ap, sym, subst}
+use mathlib.Core.Bool.{◌||◌, not}
+use mathlib.Core.Logic.{⊎_elim}
+use lib.ListN.{length, get_or, take, length-set}
+use lib.Seq.{take_all}
+use borrow.Author.Rules.{rules}
+use Rattle.hexadecimal.specs.Digits.{value_of, is_digit}
+use Rattle.key_lines.specs.State.{Begun}
+use Rattle.key_lines.specs.declared.Line.{Line}
+use Rattle.key_lines.proofs.States.{stored, passed, next_of}
+use Rattle.key_lines.proofs.feed.Goals as goal
+
+pub loop-i-init : goal.loop-i-init
+loop-i-init c =
+    let a = c.args in
+    (search rules, search rules, search rules, λ text b. subst (Begun a.line) (sym (append-nil text)) b)
+
+pub loop-i-preserved : goal.loop-i-preserved
+loop-i-preserved c =
+    let part = c.args.part.now in
+    let i = c.loop-i.i in
+    let small : i < length part = search rules in
+    let next : Line = record { first = c.if-len-lt18.first; len = c.longer-len.result; bad = c.worse-bad.result } in (
+      search rules,
+      search rules,
+      ⊎_elim (λ w. ap length w.1 ∙ simp length-set (search rules)) (λ w. ap length w.1 ∙ search rules) c.if-len-lt18.branch,
+      λ text b.
+          let old = c.loop-i.invariant.3 text b in
+          let grow = c.longer-len.ensures in
+          let bad : c.worse-bad.result ≡ (c.loop-i.bad || not (is_digit (value_of (get_or part i 0)))) = search rules in
+          subst (Begun next) (sym (next_of text part i small))
+          (⊎_elim
+          (λ w. stored _ _ _ (text ++ take i part) old (get_or part i 0) _ w.0.taken w.1 _ grow _ bad)
+          (λ w. passed _ _ _ (text ++ take i part) old (get_or part i 0) _ w.0.left w.1 _ grow _ bad)
+          c.if-len-lt18.branch),
+    )
+
+pub returns : goal.returns
+returns c =
+    λ text b.
+    let part = c.args.part.now in
+    let line : Line = record { first = c.loop-i.first; len = c.loop-i.len; bad = c.loop-i.bad } in
+    subst (λ (l : List ℕ). Begun line (text ++ l)) (take_all c.loop-i.i part (search rules)) (c.loop-i.invariant.3 text b)

@@ -1,0 +1,21 @@
+-- `key_lines::line_end` meets its contract. The invariant: the first line feed from `from` on is the first from `i` on. The laws scan-here,
+-- scan-on and scan-end are its steps; the measure is what is left of the input. Assumes nothing.
+use native.Mathlib.Omega.{arith}
+use borrow.Author.Rules.{rules}
+use Rattle.key_lines.proofs.Parts.{scan_here, scan_on, scan_end}
+use Rattle.key_lines.proofs.line_end.Goals as goal
+
+pub returns-then-input-i-eq10 : goal.returns-then-input-i-eq10
+returns-then-input-i-eq10 c =
+    let here = scan_here c.args.input.now c.loop-i.i (search rules) c.if-input-i-eq10.true in
+    omega arith
+
+pub loop-i-preserved : goal.loop-i-preserved
+loop-i-preserved c =
+    let on = scan_on c.args.input.now c.loop-i.i (search rules) c.if-input-i-eq10.false in
+    omega arith
+
+pub returns : goal.returns
+returns c =
+    let end = scan_end c.args.input.now c.loop-i.i (search rules) in
+    omega arith

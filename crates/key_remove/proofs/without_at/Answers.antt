@@ -1,0 +1,11 @@
+-- `key_remove::without_at` meets its contract: the keys behind the place put one place down (`proofs/Moved.antt`). Assumes nothing.
+use native.Mathlib.Omega.{arith}
+use Rattle.key_remove.proofs.Moved.{moved_keys}
+use borrow.Author.Rules.{rules}
+use Rattle.key_remove.proofs.without_at.Goals as goal
+
+pub returns : goal.returns
+returns c =
+    let a = c.args in
+    let pre = c.requires in
+    moved_keys a.old.now a.place a.count _ _ pre.0.0 (omega (arith, pre.0.1, pre.1.0)) pre.1.1 (search rules)

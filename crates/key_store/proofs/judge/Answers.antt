@@ -1,0 +1,72 @@
+-- `key_store::judge` meets its contract: each way out is a case of the definition (`proofs/Answers.antt`). Assumes nothing.
+use Prim.Native.Nat.{ℕ}
+use mathlib.Core.Path.{◌≡◌, sym, ◌∙◌}
+use mathlib.Core.Bool.{true}
+use borrow.Author.Tests.{not-true, not-false}
+use Rattle.refusal.specs.Says.{only}
+use Rattle.refusal.specs.Outcome.{given}
+use Rattle.refusal.proofs.Due.{due}
+use Rattle.refusal.proofs.Outcomes.{was_given, was_refused}
+use Rattle.content_key.specs.Key.{key_of}
+use Rattle.rlp.proofs.Answers.{found}
+use Rattle.key_index.specs.View.{View, key_limit, view_of}
+use Rattle.key_index.specs.Good.{good}
+use Rattle.key_store.specs.Store.{refused, admit_of}
+use Rattle.key_store.proofs.Answers.{store_bad, store_key, store_content, store_admit}
+use Rattle.key_store.proofs.Verdicts.{refused_says, says_as}
+use borrow.Author.Rules.{rules}
+use Rattle.key_store.proofs.judge.Goals as goal
+
+abbrev seen : goal.Start → View
+seen c = view_of c.args.node c.args.cap c.args.keys.now c.args.count
+
+abbrev asked : goal.After-is_good → goal.Start
+asked c = c.before.before.before.before
+
+-- what the test of the rules says
+tested : (c : goal.After-is_good) → good key_limit (seen (asked c)) ≡ c.is_good.result
+tested c = sym c.is_good.ensures
+
+-- the index is good, where it passed
+kept : (c : goal.Else-not-is_good) → good key_limit (seen (asked c.before)) ≡ true
+kept c = tested c.before ∙ not-false _ c.if-not-is_good.false-raw
+
+-- the bytes are a key, where they were accepted
+read : (c : goal.In_default) → given c.key-read.result.key ≡ key_of (asked c.before.before.before).args.bytes.now
+read c = was_given _ _ c.key-read.ensures.key_value c.in_default.is
+
+pub returns-then-not-is_good : goal.returns-then-not-is_good
+returns-then-not-is_good c =
+    let s = asked c.before.before in
+    refused_says key_limit (seen s) _ _ _ _ c.refused.ensures
+    (due (λ (n : ℕ). refused (only n)) _ 0
+    (store_bad key_limit (seen s) s.args.bytes.now s.args.content.now s.args.newest (tested c.before.before ∙ not-true _ c.if-not-is_good.true-raw))
+    (search rules))
+
+pub returns-in-Refused : goal.returns-in-Refused
+returns-in-Refused c =
+    let s = asked c.before.before.before.before in
+    refused_says key_limit (seen s) _ _ _ _ c.refused-in-Refused.ensures
+    (store_key key_limit (seen s) s.args.bytes.now s.args.content.now s.args.newest _ (kept c.before.before.before) (was_refused _ _ c.key-read.ensures.key_value c.in-Refused.is))
+
+pub admit-requires : goal.admit-requires
+admit-requires c κs =
+    ((asked c.before.before.before.before.before.before).requires, kept c.before.before.before.before.before)
+
+pub returns-in-Accepted : goal.returns-in-Accepted
+returns-in-Accepted c =
+    let s = asked c.before.before.before.before.before.before.before in
+    says_as key_limit (seen s) _ (admit_of key_limit (seen s) c.key-read.result.key _) _ c.admit.ensures
+    (due (admit_of key_limit (seen s) c.key-read.result.key) _ _
+    (store_admit key_limit (seen s) s.args.bytes.now s.args.content.now s.args.newest _ _ (kept c.before.before.before.before.before.before) (read c.before.before.before.before)
+    (found _ c.examine-examined.ensures c.in-Accepted.is))
+    (search rules))
+
+pub returns-in-Refused-examined : goal.returns-in-Refused-examined
+returns-in-Refused-examined c =
+    let s = asked c.before.before.before.before.before.before.before in
+    refused_says key_limit (seen s) _ _ _ _ c.refused-in-Refused-examined.ensures
+    (due refused _ _
+    (store_content key_limit (seen s) s.args.bytes.now s.args.content.now s.args.newest _ _ (kept c.before.before.before.before.before.before) (read c.before.before.before.before)
+    (found _ c.examine-examined.ensures c.in-Refused-examined.is))
+    (search rules))

@@ -1,0 +1,41 @@
+-- `message_records::places` meets its contract. The invariant: the first i cells of both arrays are filled, the others are zeros. No offset is above
+-- the next or the size, so nothing wraps (`proofs/Offsets.antt`); what is filled are the records' places (`proofs/Filled.antt`). The measure
+-- is what is left of the count. Assumes nothing.
+use Prim.Native.Nat.{◌≤◌}
+use native.Mathlib.Omega.{arith}
+use borrow.Author.Rules.{rules}
+use Rattle.message.specs.Reading.{part_at}
+use Rattle.message_records.proofs.Offsets.{offsets_rise}
+use Rattle.message_records.proofs.Filled.{filled_none, filled_more, placed}
+use Rattle.message_records.proofs.places.Goals as goal
+
+pub loop-i-init : goal.loop-i-init
+loop-i-init c = (search rules, filled_none _, filled_none _)
+
+-- the two offsets rise, and do not pass the size
+rise : (c : goal.After-offset_at-next)
+    → (c.offset_at-start.result ≤ c.offset_at-next.result) × (c.offset_at-next.result ≤ c.args.size)
+rise c =
+    let a = c.args in
+    let i = c.loop-i.i in
+    let r = offsets_rise (part_at a.s.now a.base a.size) a.size a.count i c.requires.size_value (search rules) in
+    (omega arith, omega arith)
+
+pub overflow_add-starts : goal.overflow_add-starts
+overflow_add-starts c = let r = rise c in search rules
+
+pub overflow_sub-lens : goal.overflow_sub-lens
+overflow_sub-lens c = omega (arith, rise c)
+
+pub loop-i-preserved : goal.loop-i-preserved
+loop-i-preserved c =
+    let here = c.offset_at-start.ensures in
+    let next = c.offset_at-next.ensures in (
+      search rules,
+      filled_more _ c.loop-i.i _ (search rules) c.loop-i.invariant.1 _ (omega (arith, here)),
+      filled_more _ c.loop-i.i _ (search rules) c.loop-i.invariant.2 _ (omega (arith, here, next)),
+    )
+
+pub returns : goal.returns
+returns c =
+    placed _ _ _ _ (search rules) _ _ c.loop-i.i (search rules) c.loop-i.invariant.1 c.loop-i.invariant.2

@@ -1,0 +1,13 @@
+-- `octets::le4` meets its contract: the sum is the number of the four bytes. Assumes nothing.
+use native.Mathlib.Omega.{arith}
+use mathlib.Core.Path.{ap}
+use Rattle.octets.specs.Bytes.{le}
+use Rattle.octets.proofs.Parts.{bytes_at_all}
+use borrow.Author.Rules.{rules}
+use Rattle.octets.proofs.le4.Goals as goal
+
+pub returns : goal.returns
+unfolding le
+returns c =
+    let four = c.args.four in
+    omega (arith, ap le (bytes_at_all 4 four (search rules)))

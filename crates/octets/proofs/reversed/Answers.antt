@@ -1,0 +1,30 @@
+-- `octets::reversed` meets its contract. The invariant: the bytes passed are those in the other order, the rest are as they began, and
+-- `from` counts down as `i` counts up. A turn is one step of a copy. The measure is what is left of 32. Assumes nothing.
+use native.Mathlib.Omega.{arith}
+use mathlib.Core.Path.{◌≡◌, sym, ◌∙◌}
+use mathlib.Core.List.{reverse}
+use lib.ListN.{replicate, length, length-reverse}
+use borrow.Author.Rules.{rules}
+use Rattle.octets.proofs.Buffers.{copied_next, copied_all}
+use Rattle.octets.proofs.Parts.{reverse_at}
+use Rattle.octets.proofs.reversed.Goals as goal
+
+long : (c : goal.Start) → length c.args.bytes ≡ 32
+long c = search rules
+
+pub loop-i-preserved : goal.loop-i-preserved
+loop-i-preserved c =
+    let bytes = c.args.bytes in
+    let l = long c.before.before in (
+      search rules,
+      (
+        omega arith,
+        copied_next c.loop-i.out (replicate 32 0) (reverse bytes) c.loop-i.i _ (search rules) (omega (arith, length-reverse bytes, l))
+            (sym (reverse_at bytes c.loop-i.i _ (omega (arith, l)))) c.loop-i.invariant.1.1,
+      ),
+    )
+
+pub returns : goal.returns
+returns c =
+    c.loop-i.invariant.1.1
+    ∙ copied_all (replicate 32 0) _ c.loop-i.i (search rules) (omega (arith, length-reverse c.args.bytes, long c.before.before))

@@ -1,0 +1,37 @@
+-- `routing_table::rules::each_full` meets its contract. The invariant: the test of all log distances is the test of those that are left. The
+-- measure is what is left. Assumes nothing.
+use Prim.Native.Nat.{ℕ}
+use native.Mathlib.Omega.{arith}
+use mathlib.Core.Path.{sym, ◌∙◌}
+use mathlib.Core.Bool.{Bool}
+use mathlib.Core.List.{List}
+use lib.Dec.{leb}
+use lib.ListN.{get_or}
+use borrow.Author.Rules.{rules}
+use borrow.Author.Tests.{le-leb, lt-leb}
+use Rattle.routing_table.specs.Places.{count_of}
+use Rattle.routing_table.proofs.Passes.{every_fails, every_later, every_end}
+use Rattle.routing_table.proofs.rules.each_full.Goals as goal
+
+abbrev test : List ℕ → ℕ → Bool
+test entries d = leb 16 (count_of d entries)
+
+pub returns-then-count-lt-ENTRIES_EACH : goal.returns-then-count-lt-ENTRIES_EACH
+returns-then-count-lt-ENTRIES_EACH c =
+    let a = c.args in
+    sym (c.loop-i.invariant.2
+    ∙ every_fails (test a.entries.now) 0 a.replacements.now c.loop-i.i (search rules) (lt-leb 16 (count_of (get_or a.replacements.now c.loop-i.i 0) a.entries.now) (omega (arith, c.if-count-lt-ENTRIES_EACH.true, c.count.ensures))))
+
+pub loop-i-preserved : goal.loop-i-preserved
+loop-i-preserved c =
+    let a = c.args in (
+      omega arith,
+      c.loop-i.invariant.1,
+      c.loop-i.invariant.2
+          ∙ every_later (test a.entries.now) 0 a.replacements.now c.loop-i.i (search rules) (le-leb 16 (count_of (get_or a.replacements.now c.loop-i.i 0) a.entries.now) (omega (arith, c.if-count-lt-ENTRIES_EACH.false, c.count.ensures))),
+    )
+
+pub returns : goal.returns
+returns c =
+    let a = c.args in
+    sym (c.loop-i.invariant.2 ∙ every_end (test a.entries.now) 0 a.replacements.now c.loop-i.i (search rules))

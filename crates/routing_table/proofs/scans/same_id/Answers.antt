@@ -1,0 +1,29 @@
+-- `routing_table::scans::same_id` meets its contract. The invariant: the bytes passed are equal exactly where the flag is up, and the test on the whole is
+-- the flag and the test on the rest. The measure is what is left of the bytes. Assumes nothing.
+use mathlib.Core.Path.{◌≡◌, refl, sym, ◌∙◌}
+use lib.ListN.{length}
+use borrow.Author.Rules.{rules}
+use Rattle.octets.proofs.Equal.{same_end}
+use Rattle.octets.proofs.Flags.{same_at, flag_next, flag_end}
+use Rattle.routing_table.proofs.scans.same_id.Goals as goal
+
+long : (c : goal.Start) → (length c.args.a ≡ 32) × (length c.args.b ≡ 32)
+long c = (search rules, search rules)
+
+pub loop-i-init : goal.loop-i-init
+loop-i-init c = refl
+
+pub loop-i-preserved : goal.loop-i-preserved
+loop-i-preserved c =
+    let l = long c.before.before in
+    c.loop-i.invariant
+    ∙ flag_next c.loop-i.same _ _ _
+    (same_at c.args.a c.args.b c.loop-i.i (search rules) (search rules))
+
+pub returns : goal.returns
+returns c =
+    let l = long c.before.before in
+    sym (
+    c.loop-i.invariant
+    ∙ flag_end c.loop-i.same _ (same_end c.args.a c.args.b (search rules) c.loop-i.i (search rules))
+    )

@@ -1,0 +1,30 @@
+-- `routing_table::surveys::entry_ids` meets its contract. The invariant: the array begins with our own id and the ids stored. The measure is
+-- what is left of the count. Assumes nothing.
+use native.Mathlib.Omega.{arith}
+use mathlib.Core.Path.{refl, sym}
+use mathlib.Core.List.{◌∷◌}
+use borrow.Author.Rules.{rules}
+use Rattle.routing_table.specs.View.{view, entry_id, entry_ids, no_entry}
+use Rattle.routing_table.proofs.Filled.{filled_next, filled_end}
+use Rattle.routing_table.proofs.Firsts.{length_of_firsts, get_of_firsts}
+use Rattle.routing_table.proofs.surveys.entry_ids.Goals as goal
+
+pub loop-i-init : goal.loop-i-init
+loop-i-init c = (omega arith, search rules, refl, refl)
+
+pub loop-i-preserved : goal.loop-i-preserved
+loop-i-preserved c =
+    let t = c.args.table in
+    let n = length_of_firsts no_entry entry_id t.count t.entries in
+    let is = get_of_firsts no_entry entry_id t.count t.entries c.loop-i.i (search rules) in (
+      omega arith,
+      search rules,
+      search rules,
+      filled_next (t.own ∷ []) (entry_ids (view t)) 1 [] c.loop-i.ids c.loop-i.i _ _ (omega arith) (sym is) (omega arith) (omega arith) c.loop-i.invariant.3,
+    )
+
+pub returns : goal.returns
+returns c =
+    let t = c.args.table in
+    let n = length_of_firsts no_entry entry_id t.count t.entries in
+    filled_end (t.own ∷ []) (entry_ids (view t)) 1 c.loop-i.ids c.loop-i.i t.count (omega arith) n c.loop-i.invariant.3

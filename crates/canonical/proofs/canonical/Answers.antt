@@ -10,23 +10,21 @@ use Rattle.accumulator.specs.Verdict.{epoch_of, lengths_good, canonical_of}
 use Rattle.canonical.proofs.Answers.{right_lengths, wrong_length, no_epoch, computed_is, wanted_is, judged}
 use borrow.Author.Rules.{rules}
 use Rattle.canonical.proofs.canonical.Goals as goal
-
-abbrev start : goal.After-lengths_good → goal.Start
-start c = c.before.before.before.before
+use Rattle.canonical.proofs.canonical.Goals.{After-lengths_good, After-same, Else-epochs-epoch, Else-not-lengths_good}
 
 -- what the test of the lengths says
-tested : (c : goal.After-lengths_good) → lengths_good (start c).args.hash.now (start c).args.proof.now (start c).args.roots.now ≡ c.lengths_good.result
+tested : (c : After-lengths_good) → lengths_good c.args.hash.now c.args.proof.now c.args.roots.now ≡ c.lengths_good.result
 tested c = sym c.lengths_good.ensures
 
-good : (c : goal.Else-not-lengths_good) → lengths_good (start c.before).args.hash.now (start c.before).args.proof.now (start c.before).args.roots.now ≡ true
+good : (c : Else-not-lengths_good) → lengths_good c.args.hash.now c.args.proof.now c.args.roots.now ≡ true
 good c = tested c.before ∙ not-false _ c.if-not-lengths_good.false-raw
 
 -- the roots reach up to the epoch
-lent : (c : goal.Else-epochs-epoch) → epoch_of (start c.before.before).args.number < length (start c.before.before).args.roots.now / 32
+lent : (c : Else-epochs-epoch) → epoch_of c.args.number < length c.args.roots.now / 32
 lent c = omega (arith, c.if-epochs-epoch.false)
 
 -- the verdict, by whether the roots are the same
-verdict : (c : goal.After-same) (answer : Bool) → answer ≡ c.same.result
+verdict : (c : After-same) (answer : Bool) → answer ≡ c.same.result
     → let a = (start c.before.before.before.before.before.before.before.before).args in
     given answer ≡ canonical_of a.number a.hash.now a.proof.now a.roots.now
 verdict c answer is =
@@ -38,16 +36,16 @@ verdict c answer is =
     answer is
 
 pub returns-then-not-lengths_good : goal.returns-then-not-lengths_good
-returns-then-not-lengths_good c = wrong_length _ _ _ _ (tested c.before ∙ not-true _ c.if-not-lengths_good.true-raw) _ (search rules)
+returns-then-not-lengths_good c = wrong_length _ _ _ _ (tested (goal.at.returns-then-not-lengths_good c).After-lengths_good ∙ not-true _ c.if-not-lengths_good.true-raw) _ (search rules)
 
 pub returns-then-epochs-epoch : goal.returns-then-epochs-epoch
-returns-then-epochs-epoch c = no_epoch _ _ _ _ (good c.before) (omega (arith, c.if-epochs-epoch.true)) _ (search rules)
+returns-then-epochs-epoch c = no_epoch _ _ _ _ (good (goal.at.returns-then-epochs-epoch c).Else-not-lengths_good) (omega (arith, c.if-epochs-epoch.true)) _ (search rules)
 
 pub root_along-computed-requires : goal.root_along-computed-requires
-root_along-computed-requires c κs = (right_lengths 0 _ _ _ (good c.before.before)).1
+root_along-computed-requires c = (right_lengths 0 _ _ _ (good (goal.at.root_along-computed-requires c).Else-not-lengths_good)).1
 
 pub returns-then-same : goal.returns-then-same
-returns-then-same c = verdict c.before true (sym c.if-same.true)
+returns-then-same c = verdict (goal.at.returns-then-same c).After-same true (sym c.if-same.true)
 
 pub returns-else-same : goal.returns-else-same
-returns-else-same c = verdict c.before false (sym c.if-same.false)
+returns-else-same c = verdict (goal.at.returns-else-same c).After-same false (sym c.if-same.false)

@@ -10,9 +10,10 @@ use mir.Syntax.{w8}
 use Rattle.octets.proofs.Numbers.{bytes_all}
 use Rattle.content_key.proofs.Listing.{id_through}
 use Rattle.content_key.proofs.id.Goals as goal
+use Rattle.content_key.proofs.id.Goals.{After-table-table}
 
-byte : (c : goal.After-table-table) (i : ℕ) → get_or c.before.args.t1 i 0 < 256
-byte c i = let f : Fits w8 (get_or c.before.args.t1 i 0) = search rules in omega arith
+byte : (c : After-table-table) (i : ℕ) → get_or c.before.args.key i 0 < 256
+byte c i = let f : Fits w8 (get_or c.before.args.key i 0) = search rules in omega arith
 
 pub bounds-table-key : goal.bounds-table-key
 bounds-table-key c = byte c _

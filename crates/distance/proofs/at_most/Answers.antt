@@ -16,6 +16,7 @@ use Rattle.octets.specs.Bytes.{Bytes, be}
 use Rattle.octets.proofs.Numbers.{bytes_all, bytes_drop}
 use Rattle.octets.proofs.Order.{order_less, order_more, order_later, order_end}
 use Rattle.distance.proofs.at_most.Goals as goal
+use Rattle.distance.proofs.at_most.Goals.{In-loop-i, Start}
 
 -- the test of what is left at place i, by the byte there
 module _ (a b : List ℕ) (l : length a ≡ length b) (i : ℕ) (h : i < length a) where
@@ -39,33 +40,33 @@ over : (a b : List ℕ) (i : ℕ) → length a ≤ i → length b ≤ i → leb 
 over a b i h k = ap₂ (λ (xs ys : List ℕ). leb (be xs) (be ys)) (drop_of_length-le a h) (drop_of_length-le b k) ∙ order_end
 
 -- what the arrays are, and that the loop is inside them
-length_a : (c : goal.Start) → length c.args.a ≡ 32
+length_a : (c : Start) → length c.args.a ≡ 32
 length_a c = search rules
 
-same : (c : goal.Start) → length c.args.a ≡ length c.args.b
+same : (c : Start) → length c.args.a ≡ length c.args.b
 same c = search rules
 
-bytes_a : (c : goal.Start) → Bytes c.args.a
+bytes_a : (c : Start) → Bytes c.args.a
 bytes_a c = bytes_all c.args.a (λ i. let f : Fits w8 (get_or c.args.a i 0) = search rules in omega arith)
 
-bytes_b : (c : goal.Start) → Bytes c.args.b
+bytes_b : (c : Start) → Bytes c.args.b
 bytes_b c = bytes_all c.args.b (λ i. let f : Fits w8 (get_or c.args.b i 0) = search rules in omega arith)
 
-inside : (c : goal.In-loop-i) → c.loop-i.i < length c.args.a
+inside : (c : In-loop-i) → c.loop-i.i < length c.args.a
 inside c = omega (arith, length_a c.before.before)
 
 pub returns-then-a-i : goal.returns-then-a-i
 returns-then-a-i c =
-    sym (c.loop-i.invariant.1 ∙ less _ _ (same c.before.before.before) c.loop-i.i (inside c.before) (bytes_a c.before.before.before) (search rules))
+    sym (c.loop-i.invariant.1 ∙ less _ _ (same (goal.at.returns-then-a-i c).Start) c.loop-i.i (inside (goal.at.returns-then-a-i c).In-loop-i) (bytes_a (goal.at.returns-then-a-i c).Start) (search rules))
 
 pub returns-then-b-i : goal.returns-then-b-i
 returns-then-b-i c =
-    sym (c.loop-i.invariant.1 ∙ more _ _ (same c.before.before.before.before) c.loop-i.i (inside c.before.before) (bytes_b c.before.before.before.before) (search rules))
+    sym (c.loop-i.invariant.1 ∙ more _ _ (same (goal.at.returns-then-b-i c).Start) c.loop-i.i (inside (goal.at.returns-then-b-i c).In-loop-i) (bytes_b (goal.at.returns-then-b-i c).Start) (search rules))
 
 pub loop-i-preserved : goal.loop-i-preserved
 loop-i-preserved c =
-    (search rules, c.loop-i.invariant.1 ∙ later _ _ (same c.before.before.before.before) c.loop-i.i (inside c.before.before) (search rules) (search rules))
+    (search rules, c.loop-i.invariant.1 ∙ later _ _ (same (goal.at.loop-i-preserved c).Start) c.loop-i.i (inside (goal.at.loop-i-preserved c).In-loop-i) (search rules) (search rules))
 
 pub returns : goal.returns
 returns c =
-    sym (c.loop-i.invariant.1 ∙ over _ _ c.loop-i.i (omega (arith, length_a c.before.before)) (omega (arith, length_a c.before.before, same c.before.before)))
+    sym (c.loop-i.invariant.1 ∙ over _ _ c.loop-i.i (omega (arith, length_a (goal.at.returns c).Start)) (omega (arith, length_a (goal.at.returns c).Start, same (goal.at.returns c).Start)))

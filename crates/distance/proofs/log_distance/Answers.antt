@@ -17,6 +17,7 @@ use Rattle.distance.specs.Distance.{bit_length, log_distance_of}
 use Rattle.octets.proofs.Numbers.{bytes_all, bytes_at_lem, bytes_drop, be_zero_first}
 use Rattle.distance.proofs.BitLength.{bits_first, bits_none}
 use Rattle.distance.proofs.log_distance.Goals as goal
+use Rattle.distance.proofs.log_distance.Goals.{After-xor-d, At-loop-at, In-loop-at}
 
 -- a byte of 0 passed leaves the number to the rest
 passed : (d : List ℕ) (i : ℕ) → i < length d → get_or d i 0 ≡ 0 → be (drop i d) ≡ be (drop (i + 1) d)
@@ -39,44 +40,44 @@ ended : (d : List ℕ) (i : ℕ) → length d ≤ i → 0 ≡ bit_length 256 (be
 unfolding be
 ended d i h = sym (ap (λ (l : List ℕ). bit_length 256 (be l)) (drop_of_length-le d h) ∙ bits_none 256)
 
-length_d : (c : goal.After-xor-d) → length c.xor-d.result ≡ 32
+length_d : (c : After-xor-d) → length c.xor-d.result ≡ 32
 length_d c = search rules
 
-bytes_d : (c : goal.After-xor-d) → Bytes c.xor-d.result
+bytes_d : (c : After-xor-d) → Bytes c.xor-d.result
 bytes_d c = bytes_all c.xor-d.result (λ i. let f : Fits w8 (get_or c.xor-d.result i 0) = search rules in omega arith)
 
 -- the byte at the loop's place, and that it has no more leading zeros than bits
-abbrev byte : goal.In-loop-at → ℕ
+abbrev byte : In-loop-at → ℕ
 byte c = get_or c.xor-d.result c.loop-at.at 0
 
-zeros : (c : goal.In-loop-at) → count_leading_zeros 8 (byte c) ≤ 8
+zeros : (c : In-loop-at) → count_leading_zeros 8 (byte c) ≤ 8
 zeros c = leading_le 8 (byte c)
 
 -- the answer, from the bit length of what is left at the loop's head
-answer : (c : goal.At-loop-at) (r : ℕ) → r ≡ bit_length 256 (be (drop c.loop.at c.before.xor.result))
+answer : (c : At-loop-at) (r : ℕ) → r ≡ bit_length 256 (be (drop c.loop.at c.before.xor.result))
     → r ≡ log_distance_of c.before.before.args.a c.before.before.args.b
 answer c r e = e ∙ ap (bit_length 256) (sym c.loop.invariant.2 ∙ ap be c.before.xor.ensures)
 
 pub overflow_cast-result : goal.overflow_cast-result
-overflow_cast-result c = omega (arith, zeros c.before)
+overflow_cast-result c = omega (arith, zeros (goal.at.overflow_cast-result c).In-loop-at)
 
 pub overflow_sub-result : goal.overflow_sub-result
-overflow_sub-result c = omega (arith, zeros c.before)
+overflow_sub-result c = omega (arith, zeros (goal.at.overflow_sub-result c).In-loop-at)
 
 pub returns-then-d-at-ne0 : goal.returns-then-d-at-ne0
 returns-then-d-at-ne0 c =
     let d = c.xor-d.result in
-    let n : length d ≡ 32 = length_d c.before.before.before in
-    let z : count_leading_zeros 8 (byte c.before) ≤ 8 = zeros c.before in
-    answer c.before.before _
-    (found d c.loop-at.at c.loop-at.bits _ (omega arith) (bytes_d c.before.before.before) (omega arith) (omega arith) (omega arith) (omega arith))
+    let n : length d ≡ 32 = length_d (goal.at.returns-then-d-at-ne0 c).After-xor-d in
+    let z : count_leading_zeros 8 (byte (goal.at.returns-then-d-at-ne0 c).In-loop-at) ≤ 8 = zeros (goal.at.returns-then-d-at-ne0 c).In-loop-at in
+    answer (goal.at.returns-then-d-at-ne0 c).At-loop-at _
+    (found d c.loop-at.at c.loop-at.bits _ (omega arith) (bytes_d (goal.at.returns-then-d-at-ne0 c).After-xor-d) (omega arith) (omega arith) (omega arith) (omega arith))
 
 pub loop-at-preserved : goal.loop-at-preserved
 loop-at-preserved c =
-    let n : length c.xor-d.result ≡ 32 = length_d c.before.before.before in
+    let n : length c.xor-d.result ≡ 32 = length_d (goal.at.loop-at-preserved c).After-xor-d in
     (omega arith, omega arith, c.loop-at.invariant.2 ∙ passed c.xor-d.result c.loop-at.at (omega arith) (omega arith))
 
 pub returns : goal.returns
 returns c =
-    let n : length c.xor-d.result ≡ 32 = length_d c.before.before in
-    answer c.before 0 (ended c.xor-d.result c.loop-at.at (omega arith))
+    let n : length c.xor-d.result ≡ 32 = length_d (goal.at.returns c).After-xor-d in
+    answer (goal.at.returns c).At-loop-at 0 (ended c.xor-d.result c.loop-at.at (omega arith))

@@ -8,27 +8,28 @@ use borrow.Author.Tests.{not-true, not-false}
 use Rattle.accumulator.specs.Records.{are_records, record_count}
 use Rattle.epoch_tree.proofs.Answers.{proof_length, proof_nowhere, proof_short, proof_written}
 use Rattle.epoch_tree.proofs.proof.Goals as goal
+use Rattle.epoch_tree.proofs.proof.Goals.{Else-count-position, Else-not-are_records}
 
 -- past the first test the bytes are records
-good : (c : goal.Else-not-are_records) → are_records c.args.records.now ≡ true
+good : (c : Else-not-are_records) → are_records c.args.records.now ≡ true
 good c = sym c.are_records.ensures ∙ not-false _ c.if-not-are_records.false-raw
 
 -- past the second there is one at the position
-there : (c : goal.Else-count-position) → let a = c.args in a.position < record_count a.records.now
+there : (c : Else-count-position) → let a = c.args in a.position < record_count a.records.now
 there c = omega (arith, c.if-count-position.false)
 
 pub returns-then-not-are_records : goal.returns-then-not-are_records
 returns-then-not-are_records c = proof_length _ _ (sym c.are_records.ensures ∙ not-true _ c.if-not-are_records.true-raw) _ (search rules) _
 
 pub returns-then-count-position : goal.returns-then-count-position
-returns-then-count-position c = proof_nowhere _ _ (good c.before) (omega (arith, c.if-count-position.true)) _ (search rules) _
+returns-then-count-position c = proof_nowhere _ _ (good (goal.at.returns-then-count-position c).Else-not-are_records) (omega (arith, c.if-count-position.true)) _ (search rules) _
 
 pub returns-then-out-lt-PROOF : goal.returns-then-out-lt-PROOF
-returns-then-out-lt-PROOF c = proof_short _ _ (good c.before.before) (there c.before) _ (search rules) _ (search rules)
+returns-then-out-lt-PROOF c = proof_short _ _ (good (goal.at.returns-then-out-lt-PROOF c).Else-not-are_records) (there (goal.at.returns-then-out-lt-PROOF c).Else-count-position) _ (search rules) _ (search rules)
 
 pub siblings-siblings-requires : goal.siblings-siblings-requires
-siblings-siblings-requires c κs = (good c.before.before, there c.before)
+siblings-siblings-requires c = (good (goal.at.siblings-siblings-requires c).Else-not-are_records, there (goal.at.siblings-siblings-requires c).Else-count-position)
 
 pub returns : goal.returns
 returns c =
-    proof_written _ _ (good c.before.before.before.before.before.before.before.before) (there c.before.before.before.before.before.before.before) _ (search rules) _ _ _ (search rules) c.put.ensures.out_after c.siblings-siblings.ensures
+    proof_written _ _ (good (goal.at.returns c).Else-not-are_records) (there (goal.at.returns c).Else-count-position) _ (search rules) _ _ _ (search rules) c.put.ensures.out_after c.siblings-siblings.ensures

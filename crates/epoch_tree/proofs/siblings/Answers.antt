@@ -15,7 +15,7 @@ loop-height-init c =
     (search rules, omega arith, search rules, written_first _ _ c.requires.position_bound _ 0 c.part32-difficulty.result c.put.ensures.out_after refl (difficulty_read _ _ c.requires.position_bound _ _ c.part32-difficulty.ensures (search rules)))
 
 pub node-sibling-requires : goal.node-sibling-requires
-node-sibling-requires c κs = (c.requires.records_value, search rules)
+node-sibling-requires c = (c.requires.records_value, search rules)
 
 pub loop-height-preserved : goal.loop-height-preserved
 loop-height-preserved c = (
@@ -27,7 +27,7 @@ loop-height-preserved c = (
 )
 
 pub count_chunk-count-requires : goal.count_chunk-count-requires
-count_chunk-count-requires c κs = c.requires.records_value
+count_chunk-count-requires c = c.requires.records_value
 
 pub returns : goal.returns
 returns c =

@@ -14,12 +14,14 @@ use Rattle.hexadecimal.proofs.encode.Goals as goal
 pub returns-then-out-at : goal.returns-then-out-at
 returns-then-out-at c =
     let a = c.args in
-    refused a.out.now a.at a.bytes.now (past_end a.out.now a.at (text_of a.bytes.now) (search rules))
+    let clauses = refused a.out.now a.at a.bytes.now (past_end a.out.now a.at (text_of a.bytes.now) (search rules)) in
+    record { value = clauses.0; out_after = clauses.1 }
 
 pub returns-then-out-at-2 : goal.returns-then-out-at-2
 returns-then-out-at-2 c =
     let a = c.args in
-    refused a.out.now a.at a.bytes.now (no_place a.out.now a.at a.bytes.now (search rules) (search rules))
+    let clauses = refused a.out.now a.at a.bytes.now (no_place a.out.now a.at a.bytes.now (search rules) (search rules)) in
+    record { value = clauses.0; out_after = clauses.1 }
 
 pub loop-i-init : goal.loop-i-init
 loop-i-init c =
@@ -27,7 +29,7 @@ loop-i-init c =
     (search rules, search rules, search rules, search rules, paste-zero a.out.now a.at (text_of a.bytes.now))
 
 pub glyph-requires : goal.glyph-requires
-glyph-requires c κs = omega (arith, c.shared_slice_known-in-loop-i-1.given c.loop-i.i)
+glyph-requires c = omega (arith, c.shared_slice_known-in-loop-i-1.given c.loop-i.i)
 
 pub bounds-out-at-in-loop-i : goal.bounds-out-at-in-loop-i
 bounds-out-at-in-loop-i c = simp length-set (omega arith)

@@ -17,6 +17,7 @@ use Rattle.key_index.specs.declared.Place.{Place}
 use Rattle.key_index.specs.declared.Place.TheVariants.{At, Nothing}
 use Rattle.key_index.proofs.Chunks.{chunks_rest, key_at_in}
 use Rattle.key_index.proofs.find.Goals as goal
+use Rattle.key_index.proofs.find.Goals.{After-same, Start}
 
 -- the place among the keys from i on
 abbrev rest : List ℕ → ℕ → List ℕ → ℕ → Place
@@ -66,15 +67,11 @@ start keys count key =
     let e : count ≡ count - 0 = omega arith in
     ap (λ (n : ℕ). place_from 0 key (chunks n keys)) e
 
-nine : (c : goal.Start) → length c.args.key ≡ 9
+nine : (c : Start) → length c.args.key ≡ 9
 nine c = search rules
 
--- the loop's head, from where a turn has compared
-abbrev head : goal.After-same → goal.At-loop-i
-head c = c.before.before.before.before.before.before
-
-turn : (c : goal.After-same)
-    → Turn (head c).args.keys.now (head c).args.count (head c).args.key (head c).loop-i.i
+turn : (c : After-same)
+    → Turn c.args.keys.now c.args.count c.args.key c.loop-i.i
     c.key_at-held.result c.same.result
 turn c =
     record { more = search rules; whole = search rules; read = c.key_at-held.ensures; is = c.same.ensures }
@@ -84,13 +81,13 @@ loop-i-init c = (search rules, start _ _ _)
 
 pub returns-then-whole-i : goal.returns-then-whole-i
 returns-then-whole-i c =
-    sym (c.loop-i.invariant.1 ∙ short _ _ _ c.loop-i.i (nine c.before.before.before.before) (search rules))
+    sym (c.loop-i.invariant.1 ∙ short _ _ _ c.loop-i.i (nine (goal.at.returns-then-whole-i c).Start) (search rules))
 
 pub returns-then-same : goal.returns-then-same
-returns-then-same c = sym ((head c.before).loop-i.inv.1 ∙ here (turn c.before) c.if-same.true)
+returns-then-same c = sym (c.loop-i.inv.1 ∙ here (turn (goal.at.returns-then-same c).After-same) c.if-same.true)
 
 pub loop-i-preserved : goal.loop-i-preserved
-loop-i-preserved c = (search rules, (head c.before).loop-i.inv.1 ∙ later (turn c.before) c.if-same.false)
+loop-i-preserved c = (search rules, c.loop-i.inv.1 ∙ later (turn (goal.at.loop-i-preserved c).After-same) c.if-same.false)
 
 pub returns : goal.returns
 returns c =

@@ -8,20 +8,14 @@ use Rattle.distance.proofs.Tested.{over_true, over_false}
 use Rattle.key_index.specs.View.{key_limit}
 use Rattle.key_index.proofs.Scan.{Turn, good_many, scan_start, scan_end, turn_selector, turn_order, turn_cap, turn_next}
 use Rattle.key_index.proofs.is_good.Goals as goal
+use Rattle.key_index.proofs.is_good.Goals.{After-away-far}
 
--- the loop's head, from where a turn has read its key and its distance
-abbrev head : goal.After-away-far → goal.At-loop-i
-head c = c.before.before.before
-
-abbrev args : goal.After-away-far → goal.Start
-args c = (head c).before.before.before
-
-turn : (c : goal.After-away-far)
-    → Turn key_limit (args c).args.node (args c).args.cap (args c).args.keys.now (args c).args.count (head c).loop-i.last (head c).loop-i.i
+turn : (c : After-away-far)
+    → Turn key_limit c.args.node c.args.cap c.args.keys.now c.args.count c.loop-i.last c.loop-i.i
     c.part9-key.result c.away-far.result
 turn c =
     record {
-      scan = (head c).loop-i.invariant;
+      scan = c.loop-i.invariant;
       more = c.loop-i-test.true;
       read = c.part9-key.ensures;
       is = c.away-far.ensures;
@@ -34,21 +28,21 @@ pub loop-i-init : goal.loop-i-init
 loop-i-init c = scan_start _ _ _ _ _ _ (search rules)
 
 pub returns-then-key-gt1 : goal.returns-then-key-gt1
-returns-then-key-gt1 c = turn_selector (turn c.before) (search rules)
+returns-then-key-gt1 c = turn_selector (turn (goal.at.returns-then-key-gt1 c).After-away-far) (search rules)
 
 pub returns-then-at_most : goal.returns-then-at_most
 returns-then-at_most c =
     let t = rw c.at_most.ensures at c.if-at_most.true in
-    turn_order (turn c.before.before.before.before) (search rules) (omega (arith, leb-true, over_true))
+    turn_order (turn (goal.at.returns-then-at_most c).After-away-far) (search rules) (omega (arith, leb-true, over_true))
 
 pub returns-then-not-at_most : goal.returns-then-not-at_most
 returns-then-not-at_most c =
     let t = rw c.at_most-in-loop-i.ensures at c.if-not-at_most.true-raw in
-    turn_cap (turn c.before.before.before.before) (omega (arith, leb-true, over_true))
+    turn_cap (turn (goal.at.returns-then-not-at_most c).After-away-far) (omega (arith, leb-true, over_true))
 
 pub loop-i-preserved : goal.loop-i-preserved
 loop-i-preserved c =
-    turn_next (turn c.before.before.before.before) (search rules)
+    turn_next (turn (goal.at.loop-i-preserved c).After-away-far) (search rules)
     (⊎_elim (λ w z. let u = rw w.1.ensures at w.2.left in omega (arith, leb-false, over_false)) (λ w z. absurd (omega (arith, w.left, z))) c.else-i-gt0.branch)
     (let u = rw c.at_most-in-loop-i.ensures at c.if-not-at_most.false-raw in omega (arith, leb-false, over_false))
 

@@ -11,32 +11,30 @@ use Rattle.key_index.proofs.Chunks.{chunks_length}
 use Rattle.key_index.proofs.Answers.{radius_bad, radius_room, radius_full}
 use borrow.Author.Rules.{rules}
 use Rattle.key_index.proofs.radius.Goals as goal
-
-abbrev start : goal.After-is_good → goal.Start
-start c = c.before.before.before.before.before
+use Rattle.key_index.proofs.radius.Goals.{After-is_good, Start}
 
 -- what the test of the rules says
-tested : (c : goal.After-is_good) → good key_limit (view (start c).args.index) ≡ c.is_good.result
+tested : (c : After-is_good) → good key_limit (view c.args.index) ≡ c.is_good.result
 tested c = sym c.is_good.ensures
 
-size : (c : goal.Start) → length c.args.index.keys ≡ 9 * key_limit
+size : (c : Start) → length c.args.index.keys ≡ 9 * key_limit
 size c = search rules
 
 pub returns-then-not-is_good : goal.returns-then-not-is_good
 returns-then-not-is_good c =
-    let e = sym (radius_bad key_limit _ (tested c.before ∙ not-true _ c.if-not-is_good.true-raw)) in
+    let e = sym (radius_bad key_limit _ (tested (goal.at.returns-then-not-is_good c).After-is_good ∙ not-true _ c.if-not-is_good.true-raw)) in
     record { radius_value = e; radius_value_2 = ap (or_zeros 32) e }
 
 pub returns-then-index-lt-LIMIT : goal.returns-then-index-lt-LIMIT
 returns-then-index-lt-LIMIT c =
-    let v = (start c.before.before.before).args.index in
-    let g = tested c.before.before.before ∙ not-false _ c.if-not-is_good.false-raw in
+    let v = c.args.index in
+    let g = tested (goal.at.returns-then-index-lt-LIMIT c).After-is_good ∙ not-false _ c.if-not-is_good.false-raw in
     let e = sym (radius_room key_limit _ g (rw (chunks_length v.count v.keys) c.if-index-lt-LIMIT.true)) in
     record { radius_value = e; radius_value_2 = ap (or_zeros 32) e }
 
 pub returns : goal.returns
 returns c =
-    let g = tested c.before.before.before.before.before.before.before.before ∙ not-false _ c.if-not-is_good.false-raw in
-    let n = size (start c.before.before.before.before.before.before.before.before) in
+    let g = tested (goal.at.returns c).After-is_good-arg-4-1 ∙ not-false _ c.if-not-is_good.false-raw in
+    let n = size (goal.at.returns c).Start in
     let e = sym (radius_full (key_limit - 1) _ _ _ _ _ _ g c.if-index-lt-LIMIT.false (omega (arith, n)) _ c.key_at.ensures (omega arith) c.away-far.ensures) in
     record { radius_value = e; radius_value_2 = ap (or_zeros 32) e }

@@ -13,6 +13,7 @@ use Rattle.key_remove.specs.Remove.{refused, removed, without_at, remove_of}
 use Rattle.key_remove.specs.Answer.{now, back, given_by, remove_for}
 use borrow.Author.Rules.{rules}
 use Rattle.key_remove.proofs.remove.Goals as goal
+use Rattle.key_remove.proofs.remove.Goals.{In-At, Start}
 
 -- the keys around a place are those of the new index; `at`, `all` and `n` are what the code has
 taken : (index : KeyIndex) (bytes keys : List ℕ) (place at all n : ℕ)
@@ -30,43 +31,36 @@ taken index bytes keys place at all n e moved a b c =
 handed_back : (index : KeyIndex) (bytes : List ℕ) (says : Said) → remove_of key_limit (view index) bytes ≡ refused says → back says index ≡ remove_for key_limit index bytes
 handed_back index bytes says e = ap (given_by index) (sym e)
 
-abbrev start : goal.After-seek-sought → goal.Start
-start c = c.before.before.before.before.before.before
-
 -- the place found
-abbrev place : goal.In-At → ℕ
+abbrev place : In-At → ℕ
 place c = c.in-At.place
 
--- where the tests have answered
-abbrev sought : goal.In-At → goal.After-seek-sought
-sought c = c.before
-
-inside : (c : goal.In-At) → (place c < (start (sought c)).args.t1.count) × ((start (sought c)).args.t1.count ≤ key_limit)
+inside : (c : In-At) → (place c < (start c.before).args.index.count) × ((start c.before).args.index.count ≤ key_limit)
 inside c =
-    let i = (start (sought c)).args.t1 in
+    let i = (start c.before).args.index in
     let n = chunks_length i.count i.keys in
-    let s = (sought c).seek-sought.ensures.inside _ c.in-At.is in
+    let s = c.seek-sought.ensures.inside _ c.in-At.is in
     (omega (arith, s.0), omega (arith, s.1))
 
-size : (c : goal.Start) → length c.args.index.keys ≡ 9 * key_limit
+size : (c : Start) → length c.args.index.keys ≡ 9 * key_limit
 size c = search rules
 
 pub without_at-requires : goal.without_at-requires
-without_at-requires c κs =
-    let i = inside c.before.before.before.before.before.before in
-    ((omega (arith, i.0), i.1), (size (start (sought c.before.before.before.before.before.before)), refl))
+without_at-requires c =
+    let i = inside (goal.at.without_at-requires c).In-At-2 in
+    ((omega (arith, i.0), i.1), (size (start (goal.at.without_at-requires c).After-seek-sought), refl))
 
 pub overflow_sub-fewer : goal.overflow_sub-fewer
 overflow_sub-fewer c =
-    let i = inside c.before.before.before.before.before.before.before.before in
+    let i = inside (goal.at.overflow_sub-fewer c).In-At-2 in
     omega (arith, i.0)
 
 pub returns-in-Refused : goal.returns-in-Refused
 returns-in-Refused c =
-    let a = (start c.before).args in
-    handed_back a.t1 a.bytes.now _ (c.seek-sought.ensures.refuses _ c.in-Refused.is)
+    let a = c.args in
+    handed_back a.index a.bytes.now _ (c.seek-sought.ensures.refuses _ c.in-Refused.is)
 
 pub returns-in-At : goal.returns-in-At
 returns-in-At c =
-    taken (start (sought c.before.before.before.before.before.before.before.before)).args.t1 _ _ (place c.before.before.before.before.before.before.before.before) _ _ _ ((sought c.before.before.before.before.before.before.before.before).seek-sought.ensures.finds _ c.in-At.is) c.without_at.ensures
+    taken (start (goal.at.returns-in-At c).After-seek-sought).args.index _ _ (place (goal.at.returns-in-At c).In-At-2) _ _ _ (c.seek-sought.ensures.finds _ c.in-At.is) c.without_at.ensures
     (omega arith) (omega arith) (omega arith)

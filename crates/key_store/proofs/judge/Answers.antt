@@ -16,57 +16,51 @@ use Rattle.key_store.proofs.Answers.{store_bad, store_key, store_content, store_
 use Rattle.key_store.proofs.Verdicts.{refused_says, says_as}
 use borrow.Author.Rules.{rules}
 use Rattle.key_store.proofs.judge.Goals as goal
+use Rattle.key_store.proofs.judge.Goals.{After-is_good, Else-not-is_good, In_default, Start}
 
-abbrev seen : goal.Start → View
+abbrev seen : Start → View
 seen c = view_of c.args.node c.args.cap c.args.keys.now c.args.count
 
-abbrev asked : goal.After-is_good → goal.Start
-asked c = c.before.before.before.before
-
 -- what the test of the rules says
-tested : (c : goal.After-is_good) → good key_limit (seen (asked c)) ≡ c.is_good.result
+tested : (c : After-is_good) → good key_limit (seen c.before.before.before.before) ≡ c.is_good.result
 tested c = sym c.is_good.ensures
 
 -- the index is good, where it passed
-kept : (c : goal.Else-not-is_good) → good key_limit (seen (asked c.before)) ≡ true
+kept : (c : Else-not-is_good) → good key_limit (seen c.before.before.before.before.before) ≡ true
 kept c = tested c.before ∙ not-false _ c.if-not-is_good.false-raw
 
 -- the bytes are a key, where they were accepted
-read : (c : goal.In_default) → given c.key-read.result.key ≡ key_of (asked c.before.before.before).args.bytes.now
+read : (c : In_default) → given c.key-read.result.key ≡ key_of c.args.bytes.now
 read c = was_given _ _ c.key-read.ensures.key_value c.in_default.is
 
 pub returns-then-not-is_good : goal.returns-then-not-is_good
 returns-then-not-is_good c =
-    let s = asked c.before.before in
-    refused_says key_limit (seen s) _ _ _ _ c.refused.ensures
+    refused_says key_limit (seen (goal.at.returns-then-not-is_good c).Start) _ _ _ _ c.refused.ensures
     (due (λ (n : ℕ). refused (only n)) _ 0
-    (store_bad key_limit (seen s) s.args.bytes.now s.args.content.now s.args.newest (tested c.before.before ∙ not-true _ c.if-not-is_good.true-raw))
+    (store_bad key_limit (seen (goal.at.returns-then-not-is_good c).Start) c.args.bytes.now c.args.content.now c.args.newest (tested (goal.at.returns-then-not-is_good c).After-is_good ∙ not-true _ c.if-not-is_good.true-raw))
     (search rules))
 
 pub returns-in-Refused : goal.returns-in-Refused
 returns-in-Refused c =
-    let s = asked c.before.before.before.before in
-    refused_says key_limit (seen s) _ _ _ _ c.refused-in-Refused.ensures
-    (store_key key_limit (seen s) s.args.bytes.now s.args.content.now s.args.newest _ (kept c.before.before.before) (was_refused _ _ c.key-read.ensures.key_value c.in-Refused.is))
+    refused_says key_limit (seen (goal.at.returns-in-Refused c).Start) _ _ _ _ c.refused-in-Refused.ensures
+    (store_key key_limit (seen (goal.at.returns-in-Refused c).Start) c.args.bytes.now c.args.content.now c.args.newest _ (kept (goal.at.returns-in-Refused c).Else-not-is_good) (was_refused _ _ c.key-read.ensures.key_value c.in-Refused.is))
 
 pub admit-requires : goal.admit-requires
-admit-requires c κs =
-    ((asked c.before.before.before.before.before.before).requires, kept c.before.before.before.before.before)
+admit-requires c =
+    (c.requires, kept (goal.at.admit-requires c).Else-not-is_good)
 
 pub returns-in-Accepted : goal.returns-in-Accepted
 returns-in-Accepted c =
-    let s = asked c.before.before.before.before.before.before.before in
-    says_as key_limit (seen s) _ (admit_of key_limit (seen s) c.key-read.result.key _) _ c.admit.ensures
-    (due (admit_of key_limit (seen s) c.key-read.result.key) _ _
-    (store_admit key_limit (seen s) s.args.bytes.now s.args.content.now s.args.newest _ _ (kept c.before.before.before.before.before.before) (read c.before.before.before.before)
+    says_as key_limit (seen (goal.at.returns-in-Accepted c).Start) _ (admit_of key_limit (seen (goal.at.returns-in-Accepted c).Start) c.key-read.result.key _) _ c.admit.ensures
+    (due (admit_of key_limit (seen (goal.at.returns-in-Accepted c).Start) c.key-read.result.key) _ _
+    (store_admit key_limit (seen (goal.at.returns-in-Accepted c).Start) c.args.bytes.now c.args.content.now c.args.newest _ _ (kept (goal.at.returns-in-Accepted c).Else-not-is_good) (read (goal.at.returns-in-Accepted c).In_default)
     (found _ c.examine-examined.ensures c.in-Accepted.is))
     (search rules))
 
 pub returns-in-Refused-examined : goal.returns-in-Refused-examined
 returns-in-Refused-examined c =
-    let s = asked c.before.before.before.before.before.before.before in
-    refused_says key_limit (seen s) _ _ _ _ c.refused-in-Refused-examined.ensures
+    refused_says key_limit (seen (goal.at.returns-in-Refused-examined c).Start) _ _ _ _ c.refused-in-Refused-examined.ensures
     (due refused _ _
-    (store_content key_limit (seen s) s.args.bytes.now s.args.content.now s.args.newest _ _ (kept c.before.before.before.before.before.before) (read c.before.before.before.before)
+    (store_content key_limit (seen (goal.at.returns-in-Refused-examined c).Start) c.args.bytes.now c.args.content.now c.args.newest _ _ (kept (goal.at.returns-in-Refused-examined c).Else-not-is_good) (read (goal.at.returns-in-Refused-examined c).In_default)
     (found _ c.examine-examined.ensures c.in-Refused-examined.is))
     (search rules))

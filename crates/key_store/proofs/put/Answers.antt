@@ -15,17 +15,18 @@ use Rattle.key_store.specs.Cases.{OfBytes}
 use Rattle.key_store.proofs.Putting.{place_most, room_answer, full_place, full_answer}
 use borrow.Author.Rules.{rules}
 use Rattle.key_store.proofs.put.Goals as goal
+use Rattle.key_store.proofs.put.Goals.{Start}
 
-size : (c : goal.Start) → length c.args.index.keys ≡ 9 * key_limit
+size : (c : Start) → length c.args.index.keys ≡ 9 * key_limit
 size c = search rules
 
-few : (c : goal.Start) → 9 * c.args.index.count ≤ length c.args.index.keys
+few : (c : Start) → 9 * c.args.index.count ≤ length c.args.index.keys
 few c =
     let i = c.args.index in
     let f = good_facts key_limit (view i) c.requires.kept in
     omega (arith, f.few, chunks_length i.count i.keys, size c)
 
-of_bytes : (c : goal.Start) → OfBytes (view c.args.index)
+of_bytes : (c : Start) → OfBytes (view c.args.index)
 of_bytes c =
     let i = c.args.index in
     let node : (j : ℕ) → get_or i.node j 0 < 256 = λ j. let f : Fits w8 (get_or i.node j 0) = search rules in omega arith in
@@ -36,43 +37,34 @@ of_bytes c =
       each = chunks_nine i.count i.keys (few c) (bytes_all i.keys keys);
     }
 
-nine : (c : goal.Start) → NineBytes c.args.key
+nine : (c : Start) → NineBytes c.args.key
 nine c =
     let key : (j : ℕ) → get_or c.args.key j 0 < 256 = λ j. let f : Fits w8 (get_or c.args.key j 0) = search rules in omega arith in
     record { size = search rules; bytes = bytes_all c.args.key key }
 
--- from the test of the count, on its two sides
-abbrev fewer : goal.Then-index-lt-LIMIT → goal.Start
-fewer c = c.before.before.before.before
-
-abbrev none_free : goal.Else-index-lt-LIMIT → goal.Start
-none_free c = c.before.before.before.before
-
 pub with_key-requires : goal.with_key-requires
-with_key-requires c κs =
-    let s = fewer c.before.before.before.before in
-    let a = s.args in
-    let h = place_most key_limit a.t1 a.key (of_bytes s) (nine s) a.place s.requires in
-    ((omega arith, omega (arith, c.if-index-lt-LIMIT.true)), (size s, refl))
+with_key-requires c =
+    let a = c.args in
+    let h = place_most key_limit a.index a.key (of_bytes (goal.at.with_key-requires c).Start) (nine (goal.at.with_key-requires c).Start) a.place c.requires in
+    ((omega arith, omega (arith, c.if-index-lt-LIMIT.true)), (size (goal.at.with_key-requires c).Start, refl))
 
 pub returns-then-index-lt-LIMIT : goal.returns-then-index-lt-LIMIT
 returns-then-index-lt-LIMIT c =
-    let s = fewer c.before.before.before.before.before.before in
-    let a = s.args in
-    room_answer key_limit a.t1 a.key (of_bytes s) (nine s) a.place s.requires a.payload (omega (arith, c.if-index-lt-LIMIT.true)) (omega (arith, size s)) _ _ _ _ _
-    c.with_key.ensures (omega arith) (omega arith) (omega arith) (search rules)
+    let a = c.args in
+    let clauses = room_answer key_limit a.index a.key (of_bytes (goal.at.returns-then-index-lt-LIMIT c).Start) (nine (goal.at.returns-then-index-lt-LIMIT c).Start) a.place c.requires a.payload (omega (arith, c.if-index-lt-LIMIT.true)) (omega (arith, size (goal.at.returns-then-index-lt-LIMIT c).Start)) _ _ _ _ _
+    c.with_key.ensures (omega arith) (omega arith) (omega arith) (search rules) in
+    record { result_value = clauses.0; evicted_value = clauses.1 }
 
 pub with_key-requires-2 : goal.with_key-requires-2
-with_key-requires-2 c κs =
-    let s = none_free c.before.before.before.before.before.before.before.before in
-    let a = s.args in
-    let h = full_place (key_limit - 1) a.t1 a.key (of_bytes s) (nine s) a.place s.requires (omega (arith, c.if-index-lt-LIMIT.false)) (omega (arith, size s)) in
-    ((omega arith, omega arith), (size s, refl))
+with_key-requires-2 c =
+    let a = c.args in
+    let h = full_place (key_limit - 1) a.index a.key (of_bytes (goal.at.with_key-requires-2 c).Start) (nine (goal.at.with_key-requires-2 c).Start) a.place c.requires (omega (arith, c.if-index-lt-LIMIT.false)) (omega (arith, size (goal.at.with_key-requires-2 c).Start)) in
+    ((omega arith, omega arith), (size (goal.at.with_key-requires-2 c).Start, refl))
 
 pub returns : goal.returns
 returns c =
     let last = c.key_at-last in
-    let s = none_free c.before.before.before.before.before.before.before.before.before.before in
-    let a = s.args in
-    full_answer (key_limit - 1) a.t1 a.key (of_bytes s) (nine s) a.place s.requires (omega (arith, c.if-index-lt-LIMIT.false)) (omega (arith, size s)) a.payload _ _ _ _ _ _ _
-    c.with_key-2.ensures last.ensures (omega arith) (omega arith) (omega arith) (omega arith) (search rules)
+    let a = c.args in
+    let clauses = full_answer (key_limit - 1) a.index a.key (of_bytes (goal.at.returns c).Start) (nine (goal.at.returns c).Start) a.place c.requires (omega (arith, c.if-index-lt-LIMIT.false)) (omega (arith, size (goal.at.returns c).Start)) a.payload _ _ _ _ _ _ _
+    c.with_key-2.ensures last.ensures (omega arith) (omega arith) (omega arith) (omega arith) (search rules) in
+    record { result_value = clauses.0; evicted_value = clauses.1 }

@@ -14,41 +14,37 @@ use Rattle.message_read.proofs.Lists.{bytes_part}
 use Rattle.message_read.proofs.Answers.{places_in, answer_as, part_as, refused_to}
 use Rattle.message_read.proofs.Found.{content_broken, content_long, content_end, content_refused, content_many, content_good}
 use Rattle.message_read.proofs.found_content.Goals as goal
+use Rattle.message_read.proofs.found_content.Goals.{After-offset-end, After-part4-id, After-things}
 
 -- the message, and where its records end
-abbrev message : goal.After-offset-end → List ℕ
+abbrev message : After-offset-end → List ℕ
 message c = c.args.message.now
 
-abbrev end : goal.After-offset-end → ℕ
+abbrev end : After-offset-end → ℕ
 end c = 1 + c.offset-end.result
 
-ends : (c : goal.After-offset-end) → end c ≤ length (message c)
+ends : (c : After-offset-end) → end c ≤ length (message c)
 ends c = content_end (message c) c.two_offsets.ensures c.if-not-two_offsets.false-raw c.offset-end.ensures.0
 
--- the offsets were read
-abbrev read : goal.After-part4-id → goal.After-offset-end
-read c = c.before.before.before.before
-
 -- the records are good
-judged : (c : goal.After-part4-id) → why_of c.read_records-found.result.verdict ≡ Accepted
+judged : (c : After-part4-id) → why_of c.read_records-found.result.verdict ≡ Accepted
 judged c = sym c.reason-checked.ensures ∙ c.in-Accepted.is
 
 -- the connection id, and what is present
-id : (c : goal.After-part4-id) → c.part4-id.result ≡ take 4 (drop 1 (message (read c)))
+id : (c : After-part4-id) → c.part4-id.result ≡ take 4 (drop 1 (message c.before.before.before.before))
 id c =
-    let at = read c in
-    let l = content_long (message at) at.two_offsets.ensures at.if-not-two_offsets.left in
-    bytes_part 4 1 _ (message at) c.part4-id.ensures (omega arith) (omega arith)
+    let l = content_long (message c.before.before.before.before) c.two_offsets.ensures c.if-not-two_offsets.left in
+    bytes_part 4 1 _ (message c.before.before.before.before) c.part4-id.ensures (omega arith) (omega arith)
 
-present : (c : goal.After-things)
+present : (c : After-things)
     → c.things.result
-    ≡ things_of (take 4 (drop 1 (message (read c.before)))) c.read_records-found.result.count
-    (length (message (read c.before)) - end (read c.before))
+    ≡ things_of (take 4 (drop 1 (message c.before.before.before.before.before))) c.read_records-found.result.count
+    (length (message c.before.before.before.before.before) - end c.before.before.before.before.before)
 present c =
     c.things.ensures
     ∙ ap
     (λ (x : List ℕ).
-    things_of x c.read_records-found.result.count (length (message (read c.before)) - end (read c.before)))
+    things_of x c.read_records-found.result.count (length (message c.before.before.before.before.before) - end c.before.before.before.before.before))
     (id c.before)
 
 pub returns-then-not-two_offsets : goal.returns-then-not-two_offsets
@@ -56,15 +52,14 @@ returns-then-not-two_offsets c =
     refused_to c.refused.ensures (content_broken c.args.message.now c.two_offsets.ensures c.if-not-two_offsets.true-raw) (search rules)
 
 pub overflow_sub-len : goal.overflow_sub-len
-overflow_sub-len c = omega (arith, ends (read c))
+overflow_sub-len c = omega (arith, ends (goal.at.overflow_sub-len c).After-offset-end)
 
 pub returns-then-things-gt1 : goal.returns-then-things-gt1
 returns-then-things-gt1 c =
-    let r = read c.before.before.before in
     let f = c.read_records-found in
     refused_to c.refused-then-things-gt1.ensures
-    (content_many r.two_offsets.ensures r.if-not-two_offsets.left r.offset-end.ensures.0 f.result f.ensures
-    (judged c.before.before.before) (present c.before.before) (search rules))
+    (content_many c.two_offsets.ensures c.if-not-two_offsets.left c.offset-end.ensures.0 f.result f.ensures
+    (judged (goal.at.returns-then-things-gt1 c).After-part4-id) (present (goal.at.returns-then-things-gt1 c).After-things) (search rules))
     (search rules)
 
 pub returns-in-Refused : goal.returns-in-Refused
@@ -77,11 +72,10 @@ returns-in-Refused c =
 
 pub returns-else-things-gt1 : goal.returns-else-things-gt1
 returns-else-things-gt1 c =
-    let r = read c.before.before.before in
     let f = c.read_records-found in
     let b = places_in (blank_of FoundContent) f.result in
     answer_as
-    (part_as (with_connection (take 4 (drop 1 (message r))) b) (ap (with_part _ _) (ap₂ with_connection {v = b} (id c.before.before.before) c.with_records-answer.ensures))
+    (part_as (with_connection (take 4 (drop 1 (message (goal.at.returns-else-things-gt1 c).After-offset-end))) b) (ap (with_part _ _) (ap₂ with_connection {v = b} (id (goal.at.returns-else-things-gt1 c).After-part4-id) c.with_records-answer.ensures))
     (omega arith) (omega arith))
-    (content_good r.two_offsets.ensures r.if-not-two_offsets.left r.offset-end.ensures.0 f.result f.ensures
-    (judged c.before.before.before) (present c.before.before) (search rules))
+    (content_good c.two_offsets.ensures c.if-not-two_offsets.left c.offset-end.ensures.0 f.result f.ensures
+    (judged (goal.at.returns-else-things-gt1 c).After-part4-id) (present (goal.at.returns-else-things-gt1 c).After-things) (search rules))

@@ -12,19 +12,20 @@ use Rattle.message_read.proofs.Lists.{bytes_part}
 use Rattle.message_read.proofs.Answers.{answer_as, part_as, refused_to}
 use Rattle.message_read.proofs.Shapes.{rest_long, store_broken, store_bad, store_good}
 use Rattle.message_read.proofs.store.Goals as goal
+use Rattle.message_read.proofs.store.Goals.{After-part4-id, After-things}
 
 -- the message, and that it has its fixed part
-abbrev message : goal.After-part4-id → List ℕ
+abbrev message : After-part4-id → List ℕ
 message c = c.args.message.now
 
-long : (c : goal.After-part4-id) → 8 < length (message c)
+long : (c : After-part4-id) → 8 < length (message c)
 long c = rest_long c.has_rest.ensures c.if-not-has_rest.false-raw
 
 -- the connection id, and what is present
-id : (c : goal.After-part4-id) → c.part4-id.result ≡ take 4 (drop 1 (message c))
+id : (c : After-part4-id) → c.part4-id.result ≡ take 4 (drop 1 (message c))
 id c = let l = long c in bytes_part 4 1 _ (message c) c.part4-id.ensures (omega arith) (omega arith)
 
-present : (c : goal.After-things)
+present : (c : After-things)
     → c.things.result ≡ things_of (take 4 (drop 1 (message c.before))) 0 (length (message c.before) - 9)
 present c = c.things.ensures ∙ ap (λ (x : List ℕ). things_of x 0 (length (message c.before) - 9)) (id c.before)
 
@@ -37,11 +38,11 @@ overflow_sub-len c = omega (arith, long c)
 pub returns-then-things-ne1 : goal.returns-then-things-ne1
 returns-then-things-ne1 c =
     refused_to c.refused-then-things-ne1.ensures
-    (store_bad c.has_rest.ensures c.if-not-has_rest.false-raw (present c.before.before) (search rules))
+    (store_bad c.has_rest.ensures c.if-not-has_rest.false-raw (present (goal.at.returns-then-things-ne1 c).After-things) (search rules))
     (search rules)
 
 pub returns : goal.returns
 returns c =
     answer_as
-    (ap₂ with_connection (id c.before.before.before) (part_as (blank_of Store) c.part-answer.ensures (omega arith) (omega arith)))
-    (store_good c.has_rest.ensures c.if-not-has_rest.false-raw (present c.before.before) (search rules))
+    (ap₂ with_connection (id (goal.at.returns c).After-part4-id) (part_as (blank_of Store) c.part-answer.ensures (omega arith) (omega arith)))
+    (store_good c.has_rest.ensures c.if-not-has_rest.false-raw (present (goal.at.returns c).After-things) (search rules))

@@ -8,12 +8,13 @@ use Rattle.message.specs.Reading.{part_at}
 use Rattle.message_records.proofs.Offsets.{offsets_rise}
 use Rattle.message_records.proofs.Filled.{filled_none, filled_more, placed}
 use Rattle.message_records.proofs.places.Goals as goal
+use Rattle.message_records.proofs.places.Goals.{After-offset_at-next}
 
 pub loop-i-init : goal.loop-i-init
 loop-i-init c = (search rules, filled_none _, filled_none _)
 
 -- the two offsets rise, and do not pass the size
-rise : (c : goal.After-offset_at-next)
+rise : (c : After-offset_at-next)
     → (c.offset_at-start.result ≤ c.offset_at-next.result) × (c.offset_at-next.result ≤ c.args.size)
 rise c =
     let a = c.args in

@@ -8,13 +8,14 @@ use Rattle.message.specs.Reading.{part_at}
 use Rattle.message_records.proofs.Layouts.{Read, counted}
 use Rattle.message_records.proofs.Answers.{judged_as, reversed, outside, no_bytes, unread, room, in_order_lem, too_many, bad, good}
 use Rattle.message_records.proofs.read_records.Goals as goal
+use Rattle.message_records.proofs.read_records.Goals.{Else-count-eq0, Start}
 
 -- the list
-abbrev list : goal.Start → List ℕ
+abbrev list : Start → List ℕ
 list c = part_at c.args.message.now c.args.base (c.args.end - c.args.base)
 
 -- it is read, for as many records as were counted
-read : (c : goal.Else-count-eq0) → Read (list c.before.before.before.before.before.before) c.layout-count.result
+read : (c : Else-count-eq0) → Read (list c.before.before.before.before.before.before) c.layout-count.result
 read c = counted _ _ c.layout-count.ensures (search rules)
 
 pub returns-then-end-base : goal.returns-then-end-base
@@ -33,22 +34,22 @@ returns-then-count-eq0 c =
 
 pub returns-then-count-gt32 : goal.returns-then-count-gt32
 returns-then-count-gt32 c =
-    judged_as (too_many _ _ _ (search rules) (search rules) _ (read c.before.before) (search rules)) c.none-then-count-gt32.ensures (search rules)
+    judged_as (too_many _ _ _ (search rules) (search rules) _ (read (goal.at.returns-then-count-gt32 c).Else-count-eq0) (search rules)) c.none-then-count-gt32.ensures (search rules)
 
 pub places-found-requires : goal.places-found-requires
-places-found-requires c κs =
+places-found-requires c =
     let a = c.args in
-    let fits : 4 * c.layout-count.result ≤ a.end - a.base = room _ _ _ (search rules) (search rules) _ (read c.before) in
-    (search rules, in_order_lem _ _ _ (search rules) (search rules) _ (read c.before))
+    let fits : 4 * c.layout-count.result ≤ a.end - a.base = room _ _ _ (search rules) (search rules) _ (read (goal.at.places-found-requires c).Else-count-eq0) in
+    (search rules, in_order_lem _ _ _ (search rules) (search rules) _ (read (goal.at.places-found-requires c).Else-count-eq0))
 
 pub returns-then-not-good_records : goal.returns-then-not-good_records
 returns-then-not-good_records c =
     judged_as
-    (bad _ _ _ (search rules) (search rules) _ (read c.before.before.before.before.before.before.before) (search rules) _ c.places-found.ensures
+    (bad _ _ _ (search rules) (search rules) _ (read (goal.at.returns-then-not-good_records c).Else-count-eq0) (search rules) _ c.places-found.ensures
     _ c.good_records.ensures c.if-not-good_records.true-raw)
     c.none-then-not-good_records.ensures (search rules)
 
 pub returns : goal.returns
 returns c =
-    good _ _ _ (search rules) (search rules) _ (read c.before.before.before.before.before.before) (search rules) _ c.places-found.ensures
+    good _ _ _ (search rules) (search rules) _ (read (goal.at.returns c).Else-count-eq0) (search rules) _ c.places-found.ensures
     _ c.good_records.ensures c.if-not-good_records.false-raw

@@ -6,17 +6,18 @@ use borrow.Author.Tests.{not-true, not-false}
 use Rattle.message_rules.specs.Good.{inside_at, Places}
 use Rattle.message_rules.proofs.Good.{inside_all, first_within, good_many, good_outside, good_sizes, good_equal}
 use Rattle.message_rules.proofs.good_records.Goals as goal
+use Rattle.message_rules.proofs.good_records.Goals.{After-all_within, Else-not-all_within}
 
 -- the test of the places
-inside : (c : goal.After-all_within)
+inside : (c : After-all_within)
     → c.all_within.result ≡ inside_at c.args.bytes.now c.args.starts
     c.args.lens c.args.count
 inside c =
     let a = c.args in
-    c.all_within.ensures ∙ first_within a.bytes.now a.t2 a.t3 a.count (search rules) (search rules)
+    c.all_within.ensures ∙ first_within a.bytes.now a.starts a.lens a.count (search rules) (search rules)
 
 -- they lie in the bytes
-places : (c : goal.Else-not-all_within)
+places : (c : Else-not-all_within)
     → Places c.args.bytes.now c.args.starts
     c.args.lens c.args.count
 places c =
@@ -25,37 +26,37 @@ places c =
       few = search rules;
       starts_all = search rules;
       lens_all = search rules;
-      inside = inside_all a.bytes.now a.t2 a.t3 a.count
+      inside = inside_all a.bytes.now a.starts a.lens a.count
           (sym (inside c.before) ∙ not-false c.all_within.result c.if-not-all_within.false-raw);
     }
 
 pub returns-then-count-gt32 : goal.returns-then-count-gt32
 returns-then-count-gt32 c =
     let a = c.args in
-    good_many a.bytes.now a.t2 a.t3 a.count c.if-count-gt32.true
+    good_many a.bytes.now a.starts a.lens a.count c.if-count-gt32.true
 
 pub slice_bounds-all_within-end : goal.slice_bounds-all_within-end
-slice_bounds-all_within-end c = let a = c.args in sym (length-take-le a.count a.t2 (search rules))
+slice_bounds-all_within-end c = let a = c.args in sym (length-take-le a.count a.starts (search rules))
 
 pub slice_bounds-all_within-end-2 : goal.slice_bounds-all_within-end-2
-slice_bounds-all_within-end-2 c = let a = c.args in sym (length-take-le a.count a.t3 (search rules))
+slice_bounds-all_within-end-2 c = let a = c.args in sym (length-take-le a.count a.lens (search rules))
 
 pub returns-then-not-all_within : goal.returns-then-not-all_within
 returns-then-not-all_within c =
     let a = c.args in
-    good_outside a.bytes.now a.t2 a.t3 a.count (search rules)
-    (sym (inside c.before) ∙ not-true c.all_within.result c.if-not-all_within.true-raw)
+    good_outside a.bytes.now a.starts a.lens a.count (search rules)
+    (sym (inside (goal.at.returns-then-not-all_within c).After-all_within) ∙ not-true c.all_within.result c.if-not-all_within.true-raw)
 
 pub returns-then-not-sizes : goal.returns-then-not-sizes
 returns-then-not-sizes c =
     let a = c.args in
-    good_sizes a.bytes.now a.t2 a.t3 a.count (places c.before.before.before) c.sizes.result c.sizes.ensures c.if-not-sizes.true-raw
+    good_sizes a.bytes.now a.starts a.lens a.count (places (goal.at.returns-then-not-sizes c).Else-not-all_within) c.sizes.result c.sizes.ensures c.if-not-sizes.true-raw
 
 pub some_equal-requires : goal.some_equal-requires
-some_equal-requires c κs = places c.before.before.before.before.before
+some_equal-requires c = places (goal.at.some_equal-requires c).Else-not-all_within
 
 pub returns : goal.returns
 returns c =
     let a = c.args in
-    good_equal a.bytes.now a.t2 a.t3 a.count (places c.before.before.before.before.before.before) c.sizes.result c.sizes.ensures
+    good_equal a.bytes.now a.starts a.lens a.count (places (goal.at.returns c).Else-not-all_within) c.sizes.result c.sizes.ensures
     c.if-not-sizes.false-raw c.some_equal.result c.some_equal.ensures

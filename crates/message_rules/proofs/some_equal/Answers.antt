@@ -8,19 +8,16 @@ use lib.ListN.{length, get_or}
 use borrow.Author.Rules.{rules}
 use Rattle.message_rules.proofs.Pairs.{records, clear_start, clear_end, row_start, row_end, row_next, pair_found}
 use Rattle.message_rules.proofs.some_equal.Goals as goal
+use Rattle.message_rules.proofs.some_equal.Goals.{In-loop-j}
 
--- where the function starts, from a turn of the inner loop, and where a record ends
-abbrev start : goal.In-loop-j → goal.Start
-start c = c.before.before.before.before.before
-
-abbrev end : goal.In-loop-j → ℕ → ℕ
-end c k = get_or (start c).args.starts.now k 0 + get_or (start c).args.lens.now k 0
+abbrev end : In-loop-j → ℕ → ℕ
+end c k = get_or c.args.starts.now k 0 + get_or c.args.lens.now k 0
 
 -- the records of the pair lie in the bytes
-fit : (c : goal.In-loop-j)
-    → (end c c.pairs.i ≤ length (start c).args.s.now) × (end c c.loop-j.j ≤ length (start c).args.s.now)
+fit : (c : In-loop-j)
+    → (end c c.pairs.i ≤ length c.args.s.now) × (end c c.loop-j.j ≤ length c.args.s.now)
 fit c =
-    let p = (start c).requires in
+    let p = c.requires in
     (p.inside c.pairs.i (search rules), p.inside c.loop-j.j (search rules))
 
 pub pairs-init : goal.pairs-init
@@ -31,42 +28,42 @@ loop-j-init c = (c.pairs.invariant.0, row_start _ _ _ _ _ c.pairs.invariant.1 (s
 
 pub overflow_add-a : goal.overflow_add-a
 overflow_add-a c =
-    let f = fit c.before.before.before in
+    let f = fit (goal.at.overflow_add-a c).After-a-1 in
     search rules
 
 pub slice_bounds-same-count : goal.slice_bounds-same-count
 slice_bounds-same-count c =
-    let f = fit c.before.before.before in
+    let f = fit (goal.at.slice_bounds-same-count c).After-a-1 in
     search rules
 
 pub slice_bounds-same-start : goal.slice_bounds-same-start
 slice_bounds-same-start c =
-    let f = fit c.before.before.before in
+    let f = fit (goal.at.slice_bounds-same-start c).After-a-1 in
     search rules
 
 pub slice_bounds-same-end : goal.slice_bounds-same-end
 slice_bounds-same-end c =
-    let f = fit c.before.before.before in
+    let f = fit (goal.at.slice_bounds-same-end c).After-a-1 in
     search rules
 
 pub overflow_add-b : goal.overflow_add-b
 overflow_add-b c =
-    let f = fit c.before.before.before.before.before in
+    let f = fit (goal.at.overflow_add-b c).After-a-1 in
     search rules
 
 pub slice_bounds-same-count-in-loop-j : goal.slice_bounds-same-count-in-loop-j
 slice_bounds-same-count-in-loop-j c =
-    let f = fit c.before.before.before.before.before in
+    let f = fit (goal.at.slice_bounds-same-count-in-loop-j c).After-a-1 in
     search rules
 
 pub slice_bounds-same-start-in-loop-j : goal.slice_bounds-same-start-in-loop-j
 slice_bounds-same-start-in-loop-j c =
-    let f = fit c.before.before.before.before.before in
+    let f = fit (goal.at.slice_bounds-same-start-in-loop-j c).After-a-1 in
     search rules
 
 pub slice_bounds-same-end-in-loop-j : goal.slice_bounds-same-end-in-loop-j
 slice_bounds-same-end-in-loop-j c =
-    let f = fit c.before.before.before.before.before in
+    let f = fit (goal.at.slice_bounds-same-end-in-loop-j c).After-a-1 in
     search rules
 
 pub loop-j-preserved : goal.loop-j-preserved

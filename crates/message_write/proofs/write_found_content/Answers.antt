@@ -17,13 +17,13 @@ returns-then-things-gt1 c =
     c.things.result (omega (arith, c.things.ensures)) c.in-Accepted.is (omega arith))
 
 pub list_size-requires : goal.list_size-requires
-list_size-requires c κs =
+list_size-requires c =
     let a = c.args in
     let l = c.lent_records-found.ensures in
     (l.places.lens_all, l.places.few, lent_small a.bytes.now a.starts.now a.lens.now _ l c.in-Accepted.is)
 
 pub write_list-requires : goal.write_list-requires
-write_list-requires c κs =
+write_list-requires c =
     let a = c.args in
     let l = c.lent_records-found.ensures in
     (omega (arith, c.content_head-head), l.places, lent_small a.bytes.now a.starts.now a.lens.now _ l c.in-Accepted.is)

@@ -15,7 +15,7 @@ returns-then-total-eq0 c =
     c.in-Accepted.is (omega arith))
 
 pub write_list-requires : goal.write_list-requires
-write_list-requires c κs =
+write_list-requires c =
     let a = c.args in
     let l = c.lent_records-found.ensures in
     (omega (arith, c.nodes_head-head), l.places, lent_small a.bytes.now a.starts.now a.lens.now _ l c.in-Accepted.is)

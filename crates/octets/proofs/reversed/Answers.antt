@@ -8,14 +8,15 @@ use borrow.Author.Rules.{rules}
 use Rattle.octets.proofs.Buffers.{copied_next, copied_all}
 use Rattle.octets.proofs.Parts.{reverse_at}
 use Rattle.octets.proofs.reversed.Goals as goal
+use Rattle.octets.proofs.reversed.Goals.{Start}
 
-long : (c : goal.Start) → length c.args.bytes ≡ 32
+long : (c : Start) → length c.args.bytes ≡ 32
 long c = search rules
 
 pub loop-i-preserved : goal.loop-i-preserved
 loop-i-preserved c =
     let bytes = c.args.bytes in
-    let l = long c.before.before in (
+    let l = long (goal.at.loop-i-preserved c).Start in (
       search rules,
       (
         omega arith,
@@ -27,4 +28,4 @@ loop-i-preserved c =
 pub returns : goal.returns
 returns c =
     c.loop-i.invariant.1.1
-    ∙ copied_all (replicate 32 0) _ c.loop-i.i (search rules) (omega (arith, length-reverse c.args.bytes, long c.before.before))
+    ∙ copied_all (replicate 32 0) _ c.loop-i.i (search rules) (omega (arith, length-reverse c.args.bytes, long (goal.at.returns c).Start))

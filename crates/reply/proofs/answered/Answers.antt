@@ -15,10 +15,10 @@ use borrow.Author.Rules.{rules}
 use Rattle.reply.proofs.answered.Goals as goal
 
 pub nodes-requires : goal.nodes-requires
-nodes-requires c κs = c.requires
+nodes-requires c = c.requires
 
 pub found-requires : goal.found-requires
-found-requires c κs =
+found-requires c =
     let a = c.args in
     let r = c.read-read in
     (c.requires, read_key a.message.now r.result r.ensures c.in-FindContent.is _ (part_between a.message.now r.result.start r.result.len))

@@ -17,37 +17,37 @@ pub returns-then-not-agreeing : goal.returns-then-not-agreeing
 returns-then-not-agreeing c =
     let a = c.args in
     let g = c.agreeing in
-    refused_replies {right = BadState} a.out.now c.refused.ensures (search rules) (ap (in_room (length a.out.now)) (reply_apart keys.key_limit (keys.view a.t1) (view a.table) (record { own = a.own.now; content = a.content.now; connection = a.connection }) a.message.now g.result g.ensures (search (rules, not-true))))
+    refused_replies {right = BadState} a.out.now c.refused.ensures (search rules) (ap (in_room (length a.out.now)) (reply_apart keys.key_limit (keys.view a.index) (view a.table) (record { own = a.own.now; content = a.content.now; connection = a.connection }) a.message.now g.result g.ensures (search (rules, not-true))))
 
 pub returns-then-message-eq0 : goal.returns-then-message-eq0
 returns-then-message-eq0 c =
     let a = c.args in
     let g = c.agreeing in
-    refused_replies {right = EmptyMessage} a.out.now c.refused-then-message-eq0.ensures (search rules) (ap (in_room (length a.out.now)) (reply_empty keys.key_limit (keys.view a.t1) (view a.table) (record { own = a.own.now; content = a.content.now; connection = a.connection }) a.message.now g.result g.ensures (search (rules, not-false)) (search rules)))
+    refused_replies {right = EmptyMessage} a.out.now c.refused-then-message-eq0.ensures (search rules) (ap (in_room (length a.out.now)) (reply_empty keys.key_limit (keys.view a.index) (view a.table) (record { own = a.own.now; content = a.content.now; connection = a.connection }) a.message.now g.result g.ensures (search (rules, not-false)) (search rules)))
 
 pub returns-then-message-gt1280 : goal.returns-then-message-gt1280
 returns-then-message-gt1280 c =
     let a = c.args in
     let g = c.agreeing in
-    refused_replies {right = LongMessage} a.out.now c.refused-then-message-gt1280.ensures (search rules) (ap (in_room (length a.out.now)) (reply_long keys.key_limit (keys.view a.t1) (view a.table) (record { own = a.own.now; content = a.content.now; connection = a.connection }) a.message.now g.result g.ensures (search (rules, not-false)) (search rules)))
+    refused_replies {right = LongMessage} a.out.now c.refused-then-message-gt1280.ensures (search rules) (ap (in_room (length a.out.now)) (reply_long keys.key_limit (keys.view a.index) (view a.table) (record { own = a.own.now; content = a.content.now; connection = a.connection }) a.message.now g.result g.ensures (search (rules, not-false)) (search rules)))
 
 pub returns-then-not-is_request : goal.returns-then-not-is_request
 returns-then-not-is_request c =
     let a = c.args in
     let g = c.agreeing in
     let t = c.is_request in
-    refused_replies {right = MessageType} a.out.now c.refused-then-not-is_request.ensures (search rules) (ap (in_room (length a.out.now)) (reply_other keys.key_limit (keys.view a.t1) (view a.table) (record { own = a.own.now; content = a.content.now; connection = a.connection }) a.message.now g.result g.ensures (search (rules, not-false)) (omega arith) (omega arith) t.result t.ensures (search (rules, not-true))))
+    refused_replies {right = MessageType} a.out.now c.refused-then-not-is_request.ensures (search rules) (ap (in_room (length a.out.now)) (reply_other keys.key_limit (keys.view a.index) (view a.table) (record { own = a.own.now; content = a.content.now; connection = a.connection }) a.message.now g.result g.ensures (search (rules, not-false)) (omega arith) (omega arith) t.result t.ensures (search (rules, not-true))))
 
 pub answered-requires : goal.answered-requires
-answered-requires c κs =
+answered-requires c =
     let a = c.args in
     let g = c.agreeing in
-    table_good keys.key_limit (keys.view a.t1) (view a.table) (sym g.ensures ∙ not-false g.result c.if-not-agreeing.false-raw)
+    table_good keys.key_limit (keys.view a.index) (view a.table) (sym g.ensures ∙ not-false g.result c.if-not-agreeing.false-raw)
 
 pub returns : goal.returns
 returns c =
     let a = c.args in
     let g = c.agreeing in
     let t = c.is_request in
-    replies_as c.answered.ensures (ap (in_room (length a.out.now)) (reply_asked keys.key_limit (keys.view a.t1) (view a.table) (record { own = a.own.now; content = a.content.now; connection = a.connection }) a.message.now g.result g.ensures (search (rules, not-false)) (omega arith) (omega arith) t.result t.ensures (search (rules, not-false))
-    ∙ listing_alone a.t1.node a.t1.cap a.t1.keys a.t1.count (view a.table) (record { own = a.own.now; content = a.content.now; connection = a.connection }) (decode a.message.now)))
+    replies_as c.answered.ensures (ap (in_room (length a.out.now)) (reply_asked keys.key_limit (keys.view a.index) (view a.table) (record { own = a.own.now; content = a.content.now; connection = a.connection }) a.message.now g.result g.ensures (search (rules, not-false)) (omega arith) (omega arith) t.result t.ensures (search (rules, not-false))
+    ∙ listing_alone a.index.node a.index.cap a.index.keys a.index.count (view a.table) (record { own = a.own.now; content = a.content.now; connection = a.connection }) (decode a.message.now)))

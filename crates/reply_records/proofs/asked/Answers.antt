@@ -10,7 +10,7 @@ use Rattle.reply_records.specs.Records.{Holds, sent}
 use Rattle.reply_records.proofs.asked.Goals as goal
 
 pub gather-requires : goal.gather-requires
-gather-requires c κs =
+gather-requires c =
     let t = c.args.table in
     let n = length_firsts no_entry t.count t.entries in
     let s = c.asked-places.ensures in

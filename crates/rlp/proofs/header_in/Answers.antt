@@ -28,7 +28,7 @@ pub overflow_cast-first : goal.overflow_cast-first
 overflow_cast-first c = omega (arith, c.shared_slice_known-2-1.given 0)
 
 pub long_header-requires : goal.long_header-requires
-long_header-requires c κs = omega (arith, c.shared_slice_known-2-1.given 0)
+long_header-requires c = omega (arith, c.shared_slice_known-2-1.given 0)
 
 pub returns : goal.returns
 returns c =

@@ -9,6 +9,10 @@ use Rattle.octets.specs.Bytes.{be}
 use Rattle.rlp.proofs.Cases.{be_more, more_lt, more_fits}
 use Rattle.rlp.proofs.number.Goals as goal
 
+pub loop-i-init : goal.loop-i-init
+unfolding be
+loop-i-init c = search rules
+
 pub overflow_mul-n : goal.overflow_mul-n
 overflow_mul-n c = omega (arith, more_fits c.loop-i.n 0 c.loop-i.i (omega arith) (omega arith) (omega arith))
 

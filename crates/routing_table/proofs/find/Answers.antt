@@ -12,14 +12,15 @@ use Rattle.routing_table.proofs.find.Goals as goal
 pub returns-then-not-told : goal.returns-then-not-told
 returns-then-not-told c =
     let a = c.args in
-    let t = a.t1 in
+    let t = a.table in
     let s = c.survey-told in
-    answered _ _ _ _ c.answer.ensures (look_bad (view t) a.id s.result s.ensures (not-true _ c.if-not-told.true)) (search rules) c.blank.ensures (search rules)
+    let clauses = answered _ _ _ _ c.answer.ensures (look_bad (view t) a.id s.result s.ensures (not-true _ c.if-not-told.true)) (search rules) c.blank.ensures (search rules) in
+    record { result_value = clauses.0; contact_value = clauses.1; failures_value = clauses.2 }
 
 pub offset_bounds-table-at : goal.offset_bounds-table-at
 offset_bounds-table-at c =
     let a = c.args in
-    let t = a.t1 in
+    let t = a.table in
     let s = c.survey-told in
     let e = length_firsts no_entry t.count t.entries in
     let w = length_firsts no_contact t.waiting t.replacements in
@@ -29,7 +30,7 @@ offset_bounds-table-at c =
 pub bounds-table-at : goal.bounds-table-at
 bounds-table-at c =
     let a = c.args in
-    let t = a.t1 in
+    let t = a.table in
     let s = c.survey-told in
     let e = length_firsts no_entry t.count t.entries in
     let w = length_firsts no_contact t.waiting t.replacements in
@@ -39,18 +40,19 @@ bounds-table-at c =
 pub returns-then-at-table : goal.returns-then-at-table
 returns-then-at-table c =
     let a = c.args in
-    let t = a.t1 in
+    let t = a.table in
     let s = c.survey-told in
     let e = length_firsts no_entry t.count t.entries in
     let w = length_firsts no_contact t.waiting t.replacements in
     let at = get_firsts no_entry t.count t.entries s.result.entry (search rules) in
-    answered _ _ _ _ c.answer-then-at-table.ensures (look_entry (view t) a.id s.result s.ensures (not-false _ c.if-not-told.false) (omega (arith, c.if-at-table.true)) ∙ ap entry at)
-    (search rules) (search rules) (search rules)
+    let clauses = answered _ _ _ _ c.answer-then-at-table.ensures (look_entry (view t) a.id s.result s.ensures (not-false _ c.if-not-told.false) (omega (arith, c.if-at-table.true)) ∙ ap entry at)
+    (search rules) (search rules) (search rules) in
+    record { result_value = clauses.0; contact_value = clauses.1; failures_value = clauses.2 }
 
 pub offset_bounds-table-place : goal.offset_bounds-table-place
 offset_bounds-table-place c =
     let a = c.args in
-    let t = a.t1 in
+    let t = a.table in
     let s = c.survey-told in
     let e = length_firsts no_entry t.count t.entries in
     let w = length_firsts no_contact t.waiting t.replacements in
@@ -60,7 +62,7 @@ offset_bounds-table-place c =
 pub bounds-table-place : goal.bounds-table-place
 bounds-table-place c =
     let a = c.args in
-    let t = a.t1 in
+    let t = a.table in
     let s = c.survey-told in
     let e = length_firsts no_entry t.count t.entries in
     let w = length_firsts no_contact t.waiting t.replacements in
@@ -70,22 +72,24 @@ bounds-table-place c =
 pub returns-then-place-table : goal.returns-then-place-table
 returns-then-place-table c =
     let a = c.args in
-    let t = a.t1 in
+    let t = a.table in
     let s = c.survey-told in
     let e = length_firsts no_entry t.count t.entries in
     let w = length_firsts no_contact t.waiting t.replacements in
     let at = get_firsts no_contact t.waiting t.replacements s.result.replacement (search rules) in
-    answered _ _ _ _ c.answer-then-place-table.ensures
+    let clauses = answered _ _ _ _ c.answer-then-place-table.ensures
     (look_replacement (view t) a.id s.result s.ensures (not-false _ c.if-not-told.false) (omega (arith, c.if-at-table.false)) (omega (arith, c.if-place-table.true)) ∙ ap replacement at)
-    (search rules) (search rules) (search rules)
+    (search rules) (search rules) (search rules) in
+    record { result_value = clauses.0; contact_value = clauses.1; failures_value = clauses.2 }
 
 pub returns : goal.returns
 returns c =
     let a = c.args in
-    let t = a.t1 in
+    let t = a.table in
     let s = c.survey-told in
     let e = length_firsts no_entry t.count t.entries in
     let w = length_firsts no_contact t.waiting t.replacements in
-    answered _ _ _ _ c.answer-2.ensures
+    let clauses = answered _ _ _ _ c.answer-2.ensures
     (look_absent (view t) a.id s.result s.ensures (not-false _ c.if-not-told.false) (omega (arith, c.if-at-table.false)) (omega (arith, c.if-place-table.false)))
-    (search rules) c.blank-2.ensures (search rules)
+    (search rules) c.blank-2.ensures (search rules) in
+    record { result_value = clauses.0; contact_value = clauses.1; failures_value = clauses.2 }

@@ -6,17 +6,14 @@ use lib.ListN.{length, get_or}
 use Rattle.message_write.proofs.Turns.{offsets_start, offsets_fit, offsets_next, offsets_end}
 use borrow.Author.Rules.{rules}
 use Rattle.message_write.proofs.parts.put_offsets.Goals as goal
-
--- where the function starts, from a turn of the loop
-abbrev start : goal.In-loop-i → goal.Start
-start c = c.before.before.before
+use Rattle.message_write.proofs.parts.put_offsets.Goals.{In-loop-i}
 
 -- there is room for the next offset
-fit : (c : goal.In-loop-i)
-    → ((start c).args.at + 4 * c.loop-i.i + 4 ≤ length (start c).args.out.now)
-    × (c.loop-i.next + get_or (start c).args.lens.now c.loop-i.i 0 ≤ length (start c).args.out.now)
+fit : (c : In-loop-i)
+    → (c.args.at + 4 * c.loop-i.i + 4 ≤ length c.args.out.now)
+    × (c.loop-i.next + get_or c.args.lens.now c.loop-i.i 0 ≤ length c.args.out.now)
 fit c =
-    let a = (start c).args in
+    let a = c.args in
     offsets_fit a.lens.now a.count a.at a.out.now _ _ _ c.loop-i.invariant c.loop-i-test.true
 
 pub loop-i-init : goal.loop-i-init
@@ -26,12 +23,12 @@ loop-i-init c =
 
 pub overflow_add-at : goal.overflow_add-at
 overflow_add-at c =
-    let f = fit c.before.before.before in
+    let f = fit (goal.at.overflow_add-at c).In-loop-i in
     search rules
 
 pub overflow_add-next : goal.overflow_add-next
 overflow_add-next c =
-    let f = fit c.before.before.before.before.before.before.before in
+    let f = fit (goal.at.overflow_add-next c).After-offset_bytes-four in
     search rules
 
 pub loop-i-preserved : goal.loop-i-preserved

@@ -7,18 +7,15 @@ use Rattle.message_rules.proofs.Places.{part_between}
 use Rattle.message_write.proofs.Turns.{records_start, records_fit, records_next, records_end}
 use borrow.Author.Rules.{rules}
 use Rattle.message_write.proofs.parts.put_records.Goals as goal
-
--- where the function starts, from a turn of the loop
-abbrev start : goal.In-loop-i → goal.Start
-start c = c.before.before.before.before
+use Rattle.message_write.proofs.parts.put_records.Goals.{In-loop-i}
 
 -- there is room for the next record, and it is within the bytes
-fit : (c : goal.In-loop-i)
-    → (c.loop-i.next + get_or (start c).args.lens.now c.loop-i.i 0 ≤ length (start c).args.out.now)
-    × (get_or (start c).args.starts.now c.loop-i.i 0 + get_or (start c).args.lens.now c.loop-i.i 0
-    ≤ length (start c).args.bytes.now)
+fit : (c : In-loop-i)
+    → (c.loop-i.next + get_or c.args.lens.now c.loop-i.i 0 ≤ length c.args.out.now)
+    × (get_or c.args.starts.now c.loop-i.i 0 + get_or c.args.lens.now c.loop-i.i 0
+    ≤ length c.args.bytes.now)
 fit c =
-    let a = (start c).args in
+    let a = c.args in
     records_fit a.bytes.now a.starts.now a.lens.now a.count a.at a.out.now _ _ _ c.loop-i.invariant c.loop-i-test.true
 
 pub loop-i-init : goal.loop-i-init
@@ -28,27 +25,27 @@ loop-i-init c =
 
 pub overflow_add-end : goal.overflow_add-end
 overflow_add-end c =
-    let f = fit c.before.before in
+    let f = fit (goal.at.overflow_add-end c).After-start-1 in
     search rules
 
 pub slice_bounds-put-count : goal.slice_bounds-put-count
 slice_bounds-put-count c =
-    let f = fit c.before.before in
+    let f = fit (goal.at.slice_bounds-put-count c).After-start-1 in
     search rules
 
 pub slice_bounds-put-start : goal.slice_bounds-put-start
 slice_bounds-put-start c =
-    let f = fit c.before.before in
+    let f = fit (goal.at.slice_bounds-put-start c).After-start-1 in
     search rules
 
 pub slice_bounds-put-end : goal.slice_bounds-put-end
 slice_bounds-put-end c =
-    let f = fit c.before.before in
+    let f = fit (goal.at.slice_bounds-put-end c).After-start-1 in
     search rules
 
 pub overflow_add-next : goal.overflow_add-next
 overflow_add-next c =
-    let f = fit c.before.before.before.before.before.before.before.before in
+    let f = fit (goal.at.overflow_add-next c).After-start-1 in
     search rules
 
 pub loop-i-preserved : goal.loop-i-preserved

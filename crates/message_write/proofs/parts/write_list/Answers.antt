@@ -6,37 +6,34 @@ use lib.ListN.{length}
 use Rattle.message_write.proofs.Wholes.{whole_refused, whole_room, whole_wrote}
 use borrow.Author.Rules.{rules}
 use Rattle.message_write.proofs.parts.write_list.Goals as goal
-
--- where the function starts, from the arm that writes
-abbrev start : goal.In-Accepted → goal.Start
-start c = c.before.before.before.before.before.before.before
+use Rattle.message_write.proofs.parts.write_list.Goals.{In-Accepted}
 
 -- the whole fits the buffer
-abbrev size : goal.In-Accepted → ℕ
-size c = length (start c).args.head.now + c.list_size-size.result + length (start c).args.rest.now
+abbrev size : In-Accepted → ℕ
+size c = length c.args.head.now + c.list_size-size.result + length c.args.rest.now
 
-room : (c : goal.In-Accepted) → (size c ≤ 1280) × (size c ≤ length (start c).args.out.now)
+room : (c : In-Accepted) → (size c ≤ 1280) × (size c ≤ length c.args.out.now)
 room c =
-    let a = (start c).args in
-    whole_room a.head.now a.bytes.now a.starts.now a.lens.now a.count a.rest.now a.out.now (start c).requires.1
+    let a = c.args in
+    whole_room a.head.now a.bytes.now a.starts.now a.lens.now a.count a.rest.now a.out.now c.requires.1
     _ c.list_size-size.ensures.0 _ c.size_checked-checked.ensures c.in-Accepted.is
 
 pub put_offsets-requires : goal.put_offsets-requires
-put_offsets-requires c κs =
-    let fits = room c.before.before.before.before.before in
+put_offsets-requires c =
+    let fits = room (goal.at.put_offsets-requires c).In-Accepted in
     let size = c.list_size-size.ensures.0 in
     (search rules, search rules, omega arith)
 
 pub put_records-requires : goal.put_records-requires
-put_records-requires c κs =
-    let fits = room c.before.before.before.before.before.before.before.before.before in
+put_records-requires c =
+    let fits = room (goal.at.put_records-requires c).In-Accepted in
     let kept = c.put_offsets.ensures.kept in
     let size = c.list_size-size.ensures.0 in
-    ((start c.before.before.before.before.before.before.before.before.before).requires.1, omega arith)
+    (c.requires.1, omega arith)
 
 pub overflow_add-result-in-Accepted : goal.overflow_add-result-in-Accepted
 overflow_add-result-in-Accepted c =
-    let fits = room c.before.before.before.before.before.before.before.before.before.before.before.before.before.before.before.before in
+    let fits = room (goal.at.overflow_add-result-in-Accepted c).In-Accepted in
     search rules
 
 pub returns-in-Refused : goal.returns-in-Refused
@@ -47,8 +44,8 @@ returns-in-Refused c =
 
 pub returns-in-Accepted : goal.returns-in-Accepted
 returns-in-Accepted c =
-    let a = (start c.before.before.before.before.before.before.before.before.before.before.before.before.before.before.before.before).args in
-    whole_wrote a.head.now a.bytes.now a.starts.now a.lens.now a.count a.rest.now a.out.now (start c.before.before.before.before.before.before.before.before.before.before.before.before.before.before.before.before).requires.1
+    let a = c.args in
+    whole_wrote a.head.now a.bytes.now a.starts.now a.lens.now a.count a.rest.now a.out.now c.requires.1
     _ c.list_size-size.ensures.0 _ c.size_checked-checked.ensures c.in-Accepted.is
     _ _ _ _ _ _ _ _ _
     c.put.ensures.out_after c.put_offsets.ensures c.put_records.ensures c.put-in-Accepted.ensures.out_after

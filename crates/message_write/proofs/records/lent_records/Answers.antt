@@ -17,7 +17,7 @@ returns-then-count-gt32 c =
     (search rules)
 
 pub copied-sizes-requires : goal.copied-sizes-requires
-copied-sizes-requires c κs =
+copied-sizes-requires c =
     let a = c.args in
     let even = lent_even a.bytes.now a.starts.now a.lens.now _ c.all_within.ensures c.if-not-all_within.false-raw in
     search rules

@@ -12,29 +12,30 @@ use Rattle.replies.specs.Reply.{in_room}
 use Rattle.reply.proofs.Answers.{replies_as, refused_replies}
 use Rattle.reply.proofs.Contents.{single_content, single_connection, held_content, held_connection, held_none}
 use Rattle.reply.proofs.content.held.Goals as goal
+use Rattle.reply.proofs.content.held.Goals.{Joined-else-content-gt0}
 
 pub alone-requires : goal.alone-requires
-alone-requires c κs = single_content _ (omega (arith, leb-true))
+alone-requires c = single_content _ (omega (arith, leb-true))
 
 pub returns-then-content-le-CONTENT : goal.returns-then-content-le-CONTENT
 returns-then-content-le-CONTENT c =
     replies_as c.alone.ensures (ap (in_room _) (held_content c.args.content.now c.args.connection (omega arith) (omega (arith, leb-true))))
 
 -- the content has no bytes, or too many
-way : (c : goal.Joined-else-content-gt0) → (length c.args.content.now ≡ 0) ⊎ (1267 < length c.args.content.now)
+way : (c : Joined-else-content-gt0) → (length c.args.content.now ≡ 0) ⊎ (1267 < length c.args.content.now)
 way c = ⊎_elim (λ w. inr (omega (arith, leb-false))) (λ w. inl (omega arith)) c.else-content-gt0.branch
 
 pub returns-then-le4-eq0 : goal.returns-then-le4-eq0
 returns-then-le4-eq0 c =
     let zero : le c.args.connection ≡ 0 = omega (arith, c.le4.ensures) in
     refused_replies {right = Unusable} c.args.out.now c.refused.ensures (search rules)
-    (ap (in_room _) (held_none c.args.content.now c.args.connection (way c.before.before.before) zero))
+    (ap (in_room _) (held_none c.args.content.now c.args.connection (way (goal.at.returns-then-le4-eq0 c).Joined-else-content-gt0) zero))
 
 pub alone-requires-2 : goal.alone-requires-2
-alone-requires-2 c κs = single_connection _
+alone-requires-2 c = single_connection _
 
 pub returns : goal.returns
 returns c =
     let some : 0 < le c.args.connection = omega (arith, c.le4.ensures) in
     replies_as c.alone-2.ensures
-    (ap (in_room _) (held_connection c.args.content.now c.args.connection (way c.before.before.before.before.before.before.before) some))
+    (ap (in_room _) (held_connection c.args.content.now c.args.connection (way (goal.at.returns c).After-slice_known-1) some))

@@ -8,6 +8,7 @@ use lib.ListN.{get_or}
 use borrow.Author.Tests.{ltb-true, ltb-false}
 use Rattle.reply.proofs.Taking.{taking_start, taking_end, taking_stop, taking_next}
 use Rattle.reply.proofs.groups.first.Goals as goal
+use Rattle.reply.proofs.groups.first.Goals.{Joined-then-i-ge32}
 
 pub loop-i-init : goal.loop-i-init
 loop-i-init c = taking_start _ _ (omega arith)
@@ -21,7 +22,7 @@ overflow_add-size c =
     omega (arith, c.requires.1 c.loop-i.i (omega arith), c.loop-i.invariant.small)
 
 -- the next one does not fit: there are 32, or its bytes are too many
-way : (c : goal.Joined-then-i-ge32)
+way : (c : Joined-then-i-ge32)
     → (32 ≤ c.loop-i.i) ⊎ (1280 < c.loop-i.size + (4 + get_or c.args.lens.now c.loop-i.i 0))
 way c = ⊎_elim (λ w. inl (omega arith)) (λ w. inr (omega (arith, ltb-true))) c.then-i-ge32.branch
 

@@ -7,13 +7,13 @@ use Rattle.reply.proofs.Spreading.{small_left, spread_start, spread_some, spread
 use Rattle.reply.proofs.groups.plan.Goals as goal
 
 pub first-group-requires : goal.first-group-requires
-first-group-requires c κs = (omega arith, c.requires.1)
+first-group-requires c = (omega arith, c.requires.1)
 
 pub loop-from-init : goal.loop-from-init
 loop-from-init c = spread_start _ c.requires.1 _ refl _ (omega arith) _ c.first-group.ensures _ (omega arith)
 
 pub first-next-requires : goal.first-next-requires
-first-next-requires c κs =
+first-next-requires c =
     let lens = c.args.lens.now in
     (omega arith, small_left lens c.loop-from.from c.loop-from.invariant.inside c.requires.1 _ (part_rest lens c.loop-from.from))
 

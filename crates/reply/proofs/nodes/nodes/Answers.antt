@@ -16,34 +16,26 @@ use Rattle.reply.proofs.Placed.{holds_found}
 use Rattle.reply.proofs.Tables.{records_send, copied, copied_own}
 use Rattle.reply.proofs.Asking.{with_own, asked_records, nodes_refused, nodes_own, nodes_others}
 use Rattle.reply.proofs.nodes.nodes.Goals as goal
+use Rattle.reply.proofs.nodes.nodes.Goals.{After-asked-2, After-asked-then-asked}
 
--- our own record can be sent, and is the first of the records copied
-abbrev start : goal.After-asked-then-asked → goal.Start
-start c = c.before.before.before.before.before.before.before.before
-
-own_sends : (c : goal.After-asked-then-asked) → Sendable (start c).args.own.now
+own_sends : (c : After-asked-then-asked) → Sendable c.args.own.now
 own_sends c =
     let fits = c.record_fits in
-    let own = (start c).args.own.now in
+    let own = c.args.own.now in
     let tested : fits.result ≡ sendable own = search rules in
     sendable_is own (sym tested ∙ not-false fits.result c.if-not-record_fits.false-raw)
 
-own_holds : (c : goal.After-asked-then-asked)
-    → Holds (once ((start c).args.own.now ∷ asked_records (view (start c).args.table) (start c).args.own.now (start c).args.distances.now)) c.asked-then-asked.result
+own_holds : (c : After-asked-then-asked)
+    → Holds (once (c.args.own.now ∷ asked_records (view c.args.table) c.args.own.now c.args.distances.now)) c.asked-then-asked.result
 own_holds c =
-    let v = view (start c).args.table in
-    copied_own _ _ (start c).well_formed.0 (start c).requires v.own (is_asked v (start c).args.distances.now) c.asked-then-asked.result _ (own_sends c) c.asked-then-asked.ensures
+    let v = view c.args.table in
+    copied_own _ _ c.well_formed.0 c.requires v.own (is_asked v c.args.distances.now) c.asked-then-asked.result _ (own_sends c) c.asked-then-asked.ensures
 
--- it is not asked for
-abbrev start_others : goal.After-asked-2 → goal.Start
-start_others c = c.before.before.before.before.before.before
-
-holds : (c : goal.After-asked-2)
-    → Holds (once (asked_records (view (start_others c).args.table) (start_others c).args.own.now (start_others c).args.distances.now)) c.asked-2.result
+holds : (c : After-asked-2)
+    → Holds (once (asked_records (view c.args.table) c.args.own.now c.args.distances.now)) c.asked-2.result
 holds c =
-    let from = start_others c in
-    let v = view from.args.table in
-    copied _ _ from.good.0 from.requires v.own (is_asked v from.args.distances.now) c.asked-2.result c.asked-2.ensures
+    let v = view c.args.table in
+    copied _ _ c.good.0 c.requires v.own (is_asked v c.args.distances.now) c.asked-2.result c.asked-2.ensures
 
 pub returns-then-not-record_fits : goal.returns-then-not-record_fits
 returns-then-not-record_fits c =
@@ -53,17 +45,17 @@ returns-then-not-record_fits c =
     (ap (in_room _) (nodes_refused _ c.args.own.now _ _ c.asked.ensures c.if-asked.true (sym tested ∙ not-true fits.result c.if-not-record_fits.true-raw)))
 
 pub send-requires : goal.send-requires
-send-requires c κs = holds_found _ _ (own_holds c.before) (with_own _ _ (own_sends c.before) (records_send _ _ c.well_formed.0 c.requires _ _ c.asked-then-asked.result))
+send-requires c = holds_found _ _ (own_holds (goal.at.send-requires c).After-asked-then-asked) (with_own _ _ (own_sends (goal.at.send-requires c).After-asked-then-asked) (records_send _ _ c.well_formed.0 c.requires _ _ c.asked-then-asked.result))
 
 pub returns-then-asked : goal.returns-then-asked
 returns-then-asked c =
     replies_as c.send.ensures
-    (ap (in_room _) (nodes_own _ c.args.own.now _ _ c.asked.ensures c.if-asked.true (own_sends c.before.before.before.before) _ (own_holds c.before.before.before.before).are))
+    (ap (in_room _) (nodes_own _ c.args.own.now _ _ c.asked.ensures c.if-asked.true (own_sends (goal.at.returns-then-asked c).After-asked-then-asked) _ (own_holds (goal.at.returns-then-asked c).After-asked-then-asked).are))
 
 pub send-requires-2 : goal.send-requires-2
-send-requires-2 c κs = holds_found _ _ (holds c.before) (records_send _ _ c.well_formed.0 c.requires _ _ c.asked-2.result)
+send-requires-2 c = holds_found _ _ (holds (goal.at.send-requires-2 c).After-asked-2) (records_send _ _ c.well_formed.0 c.requires _ _ c.asked-2.result)
 
 pub returns : goal.returns
 returns c =
     replies_as c.send-2.ensures
-    (ap (in_room _) (nodes_others _ c.args.own.now _ _ c.asked.ensures c.if-asked.false _ (holds c.before.before.before.before).are))
+    (ap (in_room _) (nodes_others _ c.args.own.now _ _ c.asked.ensures c.if-asked.false _ (holds (goal.at.returns c).After-asked-2).are))

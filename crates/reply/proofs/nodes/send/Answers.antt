@@ -16,7 +16,7 @@ pub slice_bounds-plan-end : goal.slice_bounds-plan-end
 slice_bounds-plan-end c = sym (length-take-le _ _ (found_lens _ c.requires))
 
 pub plan-plan-requires : goal.plan-plan-requires
-plan-plan-requires c κs = (found_few _ c.requires, found_small _ c.requires)
+plan-plan-requires c = (found_few _ c.requires, found_small _ c.requires)
 
 pub returns-then-out-plan : goal.returns-then-out-plan
 returns-then-out-plan c =
@@ -35,7 +35,7 @@ pub slice_bounds-write-end-3 : goal.slice_bounds-write-end-3
 slice_bounds-write-end-3 c = sym (length-take-le _ _ (found_lens _ c.requires))
 
 pub write-sizes-requires : goal.write-sizes-requires
-write-sizes-requires c κs =
+write-sizes-requires c =
     let e = found_of_lem _ c.requires in
     let bytes : c.plan-plan.result.size ≡ length (bytes_of (messages_of (records_in c.args.found))) = plan_bytes _ _ c.plan-plan.ensures _ e in
     let room : c.plan-plan.result.size ≤ length c.args.out.now = search rules in

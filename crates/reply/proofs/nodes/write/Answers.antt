@@ -15,38 +15,35 @@ use Rattle.reply.proofs.Taking.{of_length}
 use Rattle.reply.proofs.Spreading.{small_left, small_of, part_inside, Next, next}
 use Rattle.reply.proofs.Sending.{sending_start, sending_at, sending_next, sending_end, few_messages, sending_length, group_room, one_written}
 use Rattle.reply.proofs.nodes.write.Goals as goal
+use Rattle.reply.proofs.nodes.write.Goals.{After-struct_known-1, In-loop-i}
 
--- what is known at each turn: the records, their lengths, and how many messages there are
-abbrev start : goal.In-loop-i → goal.Start
-start c = c.before.before.before.before.before.before
+abbrev records : In-loop-i → List (List ℕ)
+records c = lent_in c.args.bytes.now c.args.starts.now c.args.lens.now
 
-abbrev records : goal.In-loop-i → List (List ℕ)
-records c = lent_in (start c).args.bytes.now (start c).args.starts.now (start c).args.lens.now
+lends : (c : In-loop-i) → Lends c.args.bytes.now c.args.starts.now c.args.lens.now (records c)
+lends c = lent_lends _ _ _ _ c.requires.lends
 
-lends : (c : goal.In-loop-i) → Lends (start c).args.bytes.now (start c).args.starts.now (start c).args.lens.now (records c)
-lends c = lent_lends _ _ _ _ (start c).requires.lends
+small : (c : In-loop-i) → Small c.args.lens.now
+small c = small_of _ _ (lends_lengths (lends c)) c.requires.fair.sizes
 
-small : (c : goal.In-loop-i) → Small (start c).args.lens.now
-small c = small_of _ _ (lends_lengths (lends c)) (start c).requires.fair.sizes
+inside : (c : In-loop-i) → c.loop-i.from ≤ length c.args.lens.now
+inside c = omega (arith, c.loop-i.invariant.inside, of_length c.args.lens.now (records c) (lends_lengths (lends c)))
 
-inside : (c : goal.In-loop-i) → c.loop-i.from ≤ length (start c).args.lens.now
-inside c = omega (arith, c.loop-i.invariant.inside, of_length (start c).args.lens.now (records c) (lends_lengths (lends c)))
+few : (c : In-loop-i) → c.args.count ≤ 33
+few c = omega (arith, c.requires.number, few_messages (records c) c.requires.fair)
 
-few : (c : goal.In-loop-i) → (start c).args.count ≤ 33
-few c = omega (arith, (start c).requires.number, few_messages (records c) (start c).requires.fair)
-
-upto : (c : goal.After-struct_known-1)
-    → c.loop-i.from + c.first-group.result.taken ≤ length (start c.before.before.before).args.lens.now
+upto : (c : After-struct_known-1)
+    → c.loop-i.from + c.first-group.result.taken ≤ length c.args.lens.now
 upto c =
-    part_inside (start c.before.before.before).args.lens.now c.loop-i.from c.first-group.result.taken (inside c.before.before.before) c.first-group.ensures.inside
+    part_inside c.args.lens.now c.loop-i.from c.first-group.result.taken (inside c.before.before.before) c.first-group.ensures.inside
 
-less : (c : goal.In-loop-i) → c.loop-i.i < length (groups nodes_fit (records c))
-less c = omega (arith, (start c).requires.number)
+less : (c : In-loop-i) → c.loop-i.i < length (groups nodes_fit (records c))
+less c = omega (arith, c.requires.number)
 
 -- the group of this turn
-turned : (c : goal.After-struct_known-1) → Next (records c.before.before.before) c.loop-i.from c.first-group.result
+turned : (c : After-struct_known-1) → Next (records c.before.before.before) c.loop-i.from c.first-group.result
 turned c =
-    let lens = (start c.before.before.before).args.lens.now in
+    let lens = c.args.lens.now in
     next lens c.loop-i.from _ (part_rest lens c.loop-i.from) _ (omega arith) _ c.first-group.ensures (records c.before.before.before) (lends_lengths (lends c.before.before.before))
 
 pub loop-i-init : goal.loop-i-init
@@ -62,17 +59,17 @@ pub slice_bounds-first-end : goal.slice_bounds-first-end
 slice_bounds-first-end c = let i = inside c in search rules
 
 pub first-group-requires : goal.first-group-requires
-first-group-requires c κs =
-    (omega arith, small_left (start c.before).args.lens.now c.loop-i.from (inside c.before) (small c.before) _ (part_rest (start c.before).args.lens.now c.loop-i.from))
+first-group-requires c =
+    (omega arith, small_left c.args.lens.now c.loop-i.from (inside (goal.at.first-group-requires c).In-loop-i) (small (goal.at.first-group-requires c).In-loop-i) _ (part_rest c.args.lens.now c.loop-i.from))
 
 pub overflow_add-to : goal.overflow_add-to
-overflow_add-to c = let i = inside c.before.before.before in omega (arith, c.first-group.ensures.few)
+overflow_add-to c = let i = inside (goal.at.overflow_add-to c).In-loop-i in omega (arith, c.first-group.ensures.few)
 
 pub overflow_cast-count : goal.overflow_cast-count
-overflow_cast-count c = let n = few c.before.before.before in omega arith
+overflow_cast-count c = let n = few (goal.at.overflow_cast-count c).In-loop-i in omega arith
 
 pub offset_bounds-starts-from : goal.offset_bounds-starts-from
-offset_bounds-starts-from c = let i = inside c.before.before.before in search rules
+offset_bounds-starts-from c = let i = inside (goal.at.offset_bounds-starts-from c).In-loop-i in search rules
 
 pub slice_bounds-write_found_nodes-count : goal.slice_bounds-write_found_nodes-count
 slice_bounds-write_found_nodes-count c = omega arith
@@ -81,10 +78,10 @@ pub slice_bounds-write_found_nodes-start : goal.slice_bounds-write_found_nodes-s
 slice_bounds-write_found_nodes-start c = omega arith
 
 pub slice_bounds-write_found_nodes-end : goal.slice_bounds-write_found_nodes-end
-slice_bounds-write_found_nodes-end c = let n = upto c in let e = lends_even (lends c.before.before.before) in search rules
+slice_bounds-write_found_nodes-end c = let n = upto c in let e = lends_even (lends (goal.at.slice_bounds-write_found_nodes-end c).In-loop-i) in search rules
 
 pub offset_bounds-lens-from-in-loop-i : goal.offset_bounds-lens-from-in-loop-i
-offset_bounds-lens-from-in-loop-i c = let i = inside c.before.before.before.before in search rules
+offset_bounds-lens-from-in-loop-i c = let i = inside (goal.at.offset_bounds-lens-from-in-loop-i c).In-loop-i in search rules
 
 pub slice_bounds-write_found_nodes-count-in-loop-i : goal.slice_bounds-write_found_nodes-count-in-loop-i
 slice_bounds-write_found_nodes-count-in-loop-i c = omega arith
@@ -93,7 +90,7 @@ pub slice_bounds-write_found_nodes-start-in-loop-i : goal.slice_bounds-write_fou
 slice_bounds-write_found_nodes-start-in-loop-i c = omega arith
 
 pub slice_bounds-write_found_nodes-end-in-loop-i : goal.slice_bounds-write_found_nodes-end-in-loop-i
-slice_bounds-write_found_nodes-end-in-loop-i c = let n = upto c.before in search rules
+slice_bounds-write_found_nodes-end-in-loop-i c = let n = upto (goal.at.slice_bounds-write_found_nodes-end-in-loop-i c).After-struct_known-1 in search rules
 
 pub slice_bounds-write_found_nodes-count-in-loop-i-2 : goal.slice_bounds-write_found_nodes-count-in-loop-i-2
 slice_bounds-write_found_nodes-count-in-loop-i-2 c = sending_at _ _ _ _ _ _ _ c.loop-i.invariant
@@ -105,29 +102,29 @@ pub slice_bounds-write_found_nodes-end-in-loop-i-2 : goal.slice_bounds-write_fou
 slice_bounds-write_found_nodes-end-in-loop-i-2 c = omega arith
 
 pub offset_bounds-sizes-i : goal.offset_bounds-sizes-i
-offset_bounds-sizes-i c = let n = few c.before.before.before.before.before.before.before.before.before in omega arith
+offset_bounds-sizes-i c = let n = few (goal.at.offset_bounds-sizes-i c).In-loop-i in omega arith
 
 pub bounds-sizes-i : goal.bounds-sizes-i
-bounds-sizes-i c = let n = few c.before.before.before.before.before.before.before.before.before in omega arith
+bounds-sizes-i c = let n = few (goal.at.bounds-sizes-i c).In-loop-i in omega arith
 
 pub overflow_add-at : goal.overflow_add-at
 overflow_add-at c =
-    let room = group_room _ (start c.before.before.before.before.before.before.before.before.before.before).requires.fair _ _ _ _ _ _ c.loop-i.invariant (less c.before.before.before.before.before.before.before.before.before.before) _ (turned c.before.before.before.before.before.before.before) (start c.before.before.before.before.before.before.before.before.before.before).requires.room in
-    omega (arith, (start c.before.before.before.before.before.before.before.before.before.before).well_formed)
+    let room = group_room _ c.requires.fair _ _ _ _ _ _ c.loop-i.invariant (less (goal.at.overflow_add-at c).In-loop-i) _ (turned (goal.at.overflow_add-at c).After-struct_known-1) c.requires.room in
+    omega (arith, c.well_formed)
 
 pub overflow_step-i : goal.overflow_step-i
-overflow_step-i c = let n = few c.before.before.before.before.before.before.before.before.before.before in omega arith
+overflow_step-i c = let n = few (goal.at.overflow_step-i c).In-loop-i in omega arith
 
 pub loop-i-smaller : goal.loop-i-smaller
 loop-i-smaller c = omega arith
 
 pub loop-i-preserved : goal.loop-i-preserved
 loop-i-preserved c =
-    sending_next _ (start c.before.before.before.before.before.before.before.before.before.before).requires.fair _ _ _ _ _ _ c.loop-i.invariant (less c.before.before.before.before.before.before.before.before.before.before) _ (turned c.before.before.before.before.before.before.before) (start c.before.before.before.before.before.before.before.before.before.before).requires.room (few_messages _ (start c.before.before.before.before.before.before.before.before.before.before).requires.fair)
+    sending_next _ c.requires.fair _ _ _ _ _ _ c.loop-i.invariant (less (goal.at.loop-i-preserved c).In-loop-i) _ (turned (goal.at.loop-i-preserved c).After-struct_known-1) c.requires.room (few_messages _ c.requires.fair)
     _ _ _ _ _ refl (omega arith) (omega arith) (omega arith)
-    (one_written _ (start c.before.before.before.before.before.before.before.before.before.before).requires.fair _ _ _ _ _ _ c.loop-i.invariant (less c.before.before.before.before.before.before.before.before.before.before) _ (turned c.before.before.before.before.before.before.before) (start c.before.before.before.before.before.before.before.before.before.before).requires.room
-    (start c.before.before.before.before.before.before.before.before.before.before).args.bytes.now (start c.before.before.before.before.before.before.before.before.before.before).args.starts.now (start c.before.before.before.before.before.before.before.before.before.before).args.lens.now _ (start c.before.before.before.before.before.before.before.before.before.before).args.count
-    (c.loop-i.from + c.first-group.result.taken - c.loop-i.from) _ (lends c.before.before.before.before.before.before.before.before.before.before) (omega (arith, (start c.before.before.before.before.before.before.before.before.before.before).requires.number)) (omega arith)
+    (one_written _ c.requires.fair _ _ _ _ _ _ c.loop-i.invariant (less (goal.at.loop-i-preserved c).In-loop-i) _ (turned (goal.at.loop-i-preserved c).After-struct_known-1) c.requires.room
+    c.args.bytes.now c.args.starts.now c.args.lens.now _ c.args.count
+    (c.loop-i.from + c.first-group.result.taken - c.loop-i.from) _ (lends (goal.at.loop-i-preserved c).In-loop-i) (omega (arith, c.requires.number)) (omega arith)
     c.write_found_nodes.ensures)
 
 pub shape_of-out : goal.shape_of-out

@@ -23,7 +23,7 @@ abbrev whole : RoutingTable → List ℕ → Order → List (List ℕ)
 whole table own order = sent (own ∷ records_from (view table) order.count order.places 0)
 
 pub keep-count-requires : goal.keep-count-requires
-keep-count-requires c κs = (
+keep-count-requires c = (
   omega arith,
   record { few = omega arith; places = refl; room = refl; small = λ i h. absurd (omega arith) },
 )
@@ -33,7 +33,7 @@ unfolding records_at
 loop-i-init c =
     let a = c.args in
     let k = c.keep-count.ensures in
-    let rest = records_from (view a.t1) a.t3.count a.t3.places 0 in
+    let rest = records_from (view a.table) a.order.count a.order.places 0 in
     (omega arith, search rules, k.most, k.slots, kept_turn a.own.now [] _ rest k.are)
 
 pub offset_bounds-table-place : goal.offset_bounds-table-place
@@ -47,25 +47,25 @@ bounds-table-place c =
     search (rules, place)
 
 pub keep_entry-count-requires : goal.keep_entry-count-requires
-keep_entry-count-requires c κs =
+keep_entry-count-requires c =
     (omega (arith, c.requires.0), c.loop-i.invariant.3)
 
 pub loop-i-preserved : goal.loop-i-preserved
 loop-i-preserved c =
     let a = c.args in
-    let t = a.t1 in
+    let t = a.table in
     let i = c.loop-i.i in
     let place = c.requires.2 i (search rules) in
     let k = c.keep_entry-count.ensures in
-    let here = get_firsts no_entry t.count t.entries (get_or a.t3.places i 0) place.0 in
-    let rest = records_from (view t) a.t3.count a.t3.places (i + 1) in (
+    let here = get_firsts no_entry t.count t.entries (get_or a.order.places i 0) place.0 in
+    let rest = records_from (view t) a.order.count a.order.places (i + 1) in (
       omega arith,
       search rules,
       omega (arith, k.most),
       k.slots,
       kept_turn _ _ _ rest k.are
           ∙ ap (λ (l : List (List ℕ)). once_from (slotted c.loop-i.bytes c.loop-i.lens c.loop-i.count) (chosen sendable l))
-          (ap (λ (e : Entry). entry_record e ∷ rest) (sym here) ∙ sym (records_next (view t) a.t3.count a.t3.places c.requires.1 i (search rules)))
+          (ap (λ (e : Entry). entry_record e ∷ rest) (sym here) ∙ sym (records_next (view t) a.order.count a.order.places c.requires.1 i (search rules)))
           ∙ c.loop-i.invariant.4,
     )
 
@@ -76,6 +76,6 @@ returns c =
       starts = c.slots.ensures;
       slots = c.loop-i.invariant.3;
       are = sym (ap (λ (l : List (List ℕ)). once_from (slotted c.loop-i.bytes c.loop-i.lens c.loop-i.count) (chosen sendable l))
-          (records_none (view a.t1) a.t3.count a.t3.places c.requires.1 c.loop-i.i (omega arith)) ∙ kept_end _)
+          (records_none (view a.table) a.order.count a.order.places c.requires.1 c.loop-i.i (omega arith)) ∙ kept_end _)
           ∙ c.loop-i.invariant.4;
     }

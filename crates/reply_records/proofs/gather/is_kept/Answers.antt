@@ -11,7 +11,7 @@ pub loop-i-init : goal.loop-i-init
 loop-i-init c = (search rules, refl)
 
 pub is_slot-requires : goal.is_slot-requires
-is_slot-requires c κs =
+is_slot-requires c =
     let s = c.requires.2 in
     let n = s.small c.loop-i.i (search rules) in
     (search rules, search rules, omega (arith, s.few), s.places, s.room, omega arith)

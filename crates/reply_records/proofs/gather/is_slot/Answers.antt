@@ -17,7 +17,7 @@ returns-then-lens-i c =
     sym (differ_length a.offered.now (part_at a.bytes.now (300 * a.i) (get_or a.lens.now a.i 0)) (λ e. omega (arith, c.if-lens-i.true)))
 
 pub same-requires : goal.same-requires
-same-requires c κs =
+same-requires c =
     let a = c.args in
     let n = length a.offered.now in
     (search rules, sym (ap length (part_between a.bytes.now (300 * a.i) n) ∙ part_length a.bytes.now (300 * a.i) n (omega arith)))

@@ -14,7 +14,7 @@ returns-then-not-record_fits c =
     keeps_not a.offered.now a.count a.lens.now a.bytes.now pre.1 e
 
 pub is_kept-requires : goal.is_kept-requires
-is_kept-requires c κs =
+is_kept-requires c =
     let a = c.args in
     let pre = c.requires in
     let e = sym c.record_fits.ensures ∙ not-false c.record_fits.result c.if-not-record_fits.false-raw in

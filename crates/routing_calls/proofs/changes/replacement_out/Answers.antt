@@ -10,8 +10,9 @@ use Rattle.routing_calls.specs.Arrays.{closed, table_replacements}
 use Rattle.routing_calls.proofs.Closed.{closed_none, closed_more}
 use Rattle.routing_table.proofs.Mapped.{length_mapped}
 use Rattle.routing_calls.proofs.changes.replacement_out.Goals as goal
+use Rattle.routing_calls.proofs.changes.replacement_out.Goals.{Start}
 
-size : (c : goal.Start) → length c.args.table.replacements ≡ 16
+size : (c : Start) → length c.args.table.replacements ≡ 16
 size c = search (rules, length_mapped)
 
 pub loop-i-init : goal.loop-i-init
@@ -20,7 +21,7 @@ loop-i-init c = (search rules, search rules, closed_none _ c.args.at _ (search r
 pub loop-i-preserved : goal.loop-i-preserved
 loop-i-preserved c =
     let args = c.args in
-    (search rules, search rules, closed_more _ args.at _ c.loop-i.i _ no_contact c.loop-i.invariant.2 (search rules) (omega arith) (omega (arith, size c.before.before.before.before.before)))
+    (search rules, search rules, closed_more _ args.at _ c.loop-i.i _ no_contact c.loop-i.invariant.2 (search rules) (omega arith) (omega (arith, size (goal.at.loop-i-preserved c).Start)))
 
 pub returns : goal.returns
 returns c =

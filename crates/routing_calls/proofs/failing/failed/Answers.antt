@@ -7,9 +7,10 @@ use Rattle.routing_table.proofs.Looked.{survey_good}
 use Rattle.routing_calls.proofs.Told.{Told, told_facts, good_count, good_waiting, good_failures}
 use Rattle.routing_calls.proofs.Misses.{answers, miss_refused, failed_bad, failed_own, failed_none, failed_at}
 use Rattle.routing_calls.proofs.failing.failed.Goals as goal
+use Rattle.routing_calls.proofs.failing.failed.Goals.{Else-not-told}
 
 -- where the table is good
-told : (c : goal.Else-not-told) → Told c.args.table c.args.id c.survey-told.result
+told : (c : Else-not-told) → Told c.args.table c.args.id c.survey-told.result
 told c = told_facts _ _ _ c.survey-told.ensures (not-false _ c.if-not-told.false)
 
 pub returns-then-not-told : goal.returns-then-not-told
@@ -21,23 +22,23 @@ returns-then-not-told c =
 
 pub returns-then-told : goal.returns-then-told
 returns-then-told c =
-    let t = told c.before.before in
+    let t = told (goal.at.returns-then-told c).Else-not-told in
     let a = miss_refused _ _ _ _ _ c.kept-then-told.ensures (search rules) (failed_own _ _ t.kept (sym t.own ∙ search rules)) in
     record { result_value = a.value; by_value = a.by }
 
 pub returns-then-table-told : goal.returns-then-table-told
 returns-then-table-told c =
-    let t = told c.before.before.before.before.before in
+    let t = told (goal.at.returns-then-table-told c).Else-not-told in
     let a = miss_refused _ _ _ _ _ c.kept-then-table-told.ensures (search rules) (failed_none _ _ t.kept (sym t.own ∙ search rules) _ t.entry (search rules)) in
     record { result_value = a.value; by_value = a.by }
 
 pub failing-requires : goal.failing-requires
-failing-requires c κs =
-    let t = told c.before.before.before.before in
+failing-requires c =
+    let t = told (goal.at.failing-requires c).Else-not-told in
     (search rules, good_count _ t.kept, good_waiting _ t.kept, good_failures _ t.kept _ (search rules))
 
 pub returns : goal.returns
 returns c =
-    let t = told c.before.before.before.before.before in
+    let t = told (goal.at.returns c).Else-not-told in
     let a = answers refl (failed_at _ _ t.kept (sym t.own ∙ search rules) _ t.entry (search rules)) (c.failing.ensures _ (search rules)) in
     record { result_value = a.value; by_value = a.by }

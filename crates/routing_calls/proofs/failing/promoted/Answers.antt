@@ -6,4 +6,4 @@ use Rattle.routing_calls.proofs.failing.promoted.Goals as goal
 pub returns : goal.returns
 returns c =
     let args = c.args in
-    exchange args.t1 _ args.from _ _ _ _ _ c.entry_put.ensures (search rules) (search rules) (search rules)
+    exchange args.table _ args.from _ _ _ _ _ c.entry_put.ensures (search rules) (search rules) (search rules)

@@ -11,12 +11,13 @@ use Rattle.routing_calls.specs.SeenFor.{as_replacement, meaning_of}
 use Rattle.routing_table.proofs.Mapped.{length_mapped}
 use Rattle.routing_calls.proofs.Views.{Sized, view_latest}
 use Rattle.routing_calls.proofs.seeing.latest.Goals as goal
+use Rattle.routing_calls.proofs.seeing.latest.Goals.{Start}
 
-sized : (c : goal.Start) → Sized c.args.table
+sized : (c : Start) → Sized c.args.table
 sized c = record { entries = search (rules, length_mapped); replacements = search (rules, length_mapped) }
 
 pub replacement_added-requires : goal.replacement_added-requires
-replacement_added-requires c κs =
+replacement_added-requires c =
     let e : c.replacement_out-fewer.result.waiting ≡ c.args.table.waiting - 1 = ap (λ (t : RoutingTable). t.waiting) c.replacement_out-fewer.ensures in
     omega arith
 
@@ -29,5 +30,5 @@ returns c =
           ap meaning_of c.replacement.ensures
           ∙ ap (λ (t : RoutingTable). as_replacement (view t)) more
           ∙ ap as_replacement
-          (view_latest args.table (sized c.before.before.before) args.at (search rules) (search rules) _ (search rules) args.contact);
+          (view_latest args.table (sized (goal.at.returns c).Start) args.at (search rules) (search rules) _ (search rules) args.contact);
     }

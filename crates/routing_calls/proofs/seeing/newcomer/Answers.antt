@@ -9,23 +9,24 @@ use Rattle.routing_calls.proofs.Views.{Sized}
 use Rattle.routing_calls.proofs.Told.{Told, told_facts}
 use Rattle.routing_calls.proofs.Sightings.{new_waits, new_full, new_entry}
 use Rattle.routing_calls.proofs.seeing.newcomer.Goals as goal
+use Rattle.routing_calls.proofs.seeing.newcomer.Goals.{Start}
 
-sized : (c : goal.Start) → Sized c.args.table
+sized : (c : Start) → Sized c.args.table
 sized c = record { entries = search (rules, length_mapped); replacements = search (rules, length_mapped) }
 
-told : (c : goal.Start) → Told c.args.table c.args.contact.id c.args.told
+told : (c : Start) → Told c.args.table c.args.contact.id c.args.told
 told c = told_facts _ _ _ c.requires.told_value c.requires.good_value
 
 pub returns-then-told-ge-ENTRIES_EACH : goal.returns-then-told-ge-ENTRIES_EACH
-returns-then-told-ge-ENTRIES_EACH c = c.waits.ensures ∙ new_waits _ _ _ (told c.before.before.before).entries (search rules)
+returns-then-told-ge-ENTRIES_EACH c = c.waits.ensures ∙ new_waits _ _ _ (told (goal.at.returns-then-told-ge-ENTRIES_EACH c).Start).entries (search rules)
 
 pub returns-then-table-ge-ENTRIES : goal.returns-then-table-ge-ENTRIES
 returns-then-table-ge-ENTRIES c =
     ap meaning_of c.refused.ensures
-    ∙ new_full _ _ _ (told c.before.before.before.before.before).entries _ (search rules) (search rules) (search rules)
+    ∙ new_full _ _ _ (told (goal.at.returns-then-table-ge-ENTRIES c).Start).entries _ (search rules) (search rules) (search rules)
 
 pub returns : goal.returns
 returns c =
     ap meaning_of c.entry.ensures
     ∙ ap (λ (t : RoutingTable). as_entry (view t)) c.entry_added.ensures
-    ∙ new_entry _ _ _ (told c.before.before.before.before.before.before).entries (sized c.before.before.before.before.before.before) (search rules) (search rules)
+    ∙ new_entry _ _ _ (told (goal.at.returns c).Start).entries (sized (goal.at.returns c).Start) (search rules) (search rules)

@@ -12,16 +12,17 @@ use Rattle.routing_calls.proofs.Views.{Sized}
 use Rattle.routing_calls.proofs.Told.{Told, told_facts, good_count, good_waiting}
 use Rattle.routing_calls.proofs.Sightings.{sight_bad, sight_record, sight_own, sight_entry, sight_replacement, sight_newcomer}
 use Rattle.routing_calls.proofs.seeing.seen.Goals as goal
+use Rattle.routing_calls.proofs.seeing.seen.Goals.{Else-not-record_fits, Else-not-told, Start}
 
-arrays : (c : goal.Start) → Sized c.args.table
+arrays : (c : Start) → Sized c.args.table
 arrays c = record { entries = search (rules, length_mapped); replacements = search (rules, length_mapped) }
 
 -- where the table is good
-told : (c : goal.Else-not-told) → Told c.args.table c.args.contact.id c.survey-told.result
+told : (c : Else-not-told) → Told c.args.table c.args.contact.id c.survey-told.result
 told c = told_facts _ _ _ c.survey-told.ensures (not-false _ c.if-not-told.false)
 
 -- and the record fits
-fits : (c : goal.Else-not-record_fits) → sized c.args.contact ≡ true
+fits : (c : Else-not-record_fits) → sized c.args.contact ≡ true
 fits c =
     let e = sym c.record_fits.ensures ∙ not-false _ c.if-not-record_fits.false-raw in
     search rules
@@ -35,38 +36,38 @@ pub returns-then-not-record_fits : goal.returns-then-not-record_fits
 returns-then-not-record_fits c =
     let e = sym c.record_fits.ensures ∙ not-true _ c.if-not-record_fits.true-raw in
     let bad : sized c.args.contact ≡ false = search rules in
-    ap meaning_of c.refused-then-not-record_fits.ensures ∙ sight_record _ _ _ (search rules) (told c.before.before.before).kept bad
+    ap meaning_of c.refused-then-not-record_fits.ensures ∙ sight_record _ _ _ (search rules) (told (goal.at.returns-then-not-record_fits c).Else-not-told).kept bad
 
 pub returns-then-told : goal.returns-then-told
 returns-then-told c =
-    let t = told c.before.before.before.before in
-    ap meaning_of c.refused-then-told.ensures ∙ sight_own _ _ _ (search rules) t.kept (fits c.before.before) (sym t.own ∙ search rules)
+    let t = told (goal.at.returns-then-told c).Else-not-told in
+    ap meaning_of c.refused-then-told.ensures ∙ sight_own _ _ _ (search rules) t.kept (fits (goal.at.returns-then-told c).Else-not-record_fits) (sym t.own ∙ search rules)
 
 pub entry_put-requires : goal.entry_put-requires
-entry_put-requires c κs =
-    let n = good_count _ (told c.before.before.before.before.before.before).kept in
+entry_put-requires c =
+    let n = good_count _ (told (goal.at.entry_put-requires c).Else-not-told).kept in
     search rules
 
 pub returns-then-told-table : goal.returns-then-told-table
 returns-then-told-table c =
-    let t = told c.before.before.before.before.before.before.before.before in
+    let t = told (goal.at.returns-then-told-table c).Else-not-told in
     ap meaning_of c.entry.ensures
-    ∙ sight_entry _ _ t.kept (fits c.before.before.before.before.before.before) (sym t.own ∙ search rules) (arrays c.before.before.before.before.before.before.before.before.before.before.before.before) _ _ _ c.entry_put.ensures (search rules) (search rules)
+    ∙ sight_entry _ _ t.kept (fits (goal.at.returns-then-told-table c).Else-not-record_fits) (sym t.own ∙ search rules) (arrays (goal.at.returns-then-told-table c).Start) _ _ _ c.entry_put.ensures (search rules) (search rules)
     (search rules)
 
 pub latest-requires : goal.latest-requires
-latest-requires c κs = (search rules, good_waiting _ (told c.before.before.before.before.before.before.before.before.before).kept)
+latest-requires c = (search rules, good_waiting _ (told (goal.at.latest-requires c).Else-not-told).kept)
 
 pub returns-then-told-table-2 : goal.returns-then-told-table-2
 returns-then-told-table-2 c =
-    let t = told c.before.before.before.before.before.before.before.before.before.before in
-    sight_replacement _ _ t.kept (fits c.before.before.before.before.before.before.before.before) (sym t.own ∙ search rules) _ t.entry (search rules) _ (search rules) _ c.latest.ensures (search rules)
+    let t = told (goal.at.returns-then-told-table-2 c).Else-not-told in
+    sight_replacement _ _ t.kept (fits (goal.at.returns-then-told-table-2 c).Else-not-record_fits) (sym t.own ∙ search rules) _ t.entry (search rules) _ (search rules) _ c.latest.ensures (search rules)
 
 pub newcomer-requires : goal.newcomer-requires
-newcomer-requires c κs =
+newcomer-requires c =
     (not-false _ c.if-not-told.false, c.survey-told.ensures)
 
 pub returns : goal.returns
 returns c =
-    let t = told c.before.before.before.before.before.before.before.before.before.before in
-    sight_newcomer _ _ t.kept (fits c.before.before.before.before.before.before.before.before) (sym t.own ∙ search rules) _ t.entry (search rules) _ t.replacement c.newcomer.result c.newcomer.ensures (search rules)
+    let t = told (goal.at.returns c).Else-not-told in
+    sight_newcomer _ _ t.kept (fits (goal.at.returns c).Else-not-record_fits) (sym t.own ∙ search rules) _ t.entry (search rules) _ t.replacement c.newcomer.result c.newcomer.ensures (search rules)

@@ -13,33 +13,34 @@ use Rattle.routing_calls.proofs.Views.{Sized}
 use Rattle.routing_calls.proofs.Told.{Told, told_facts, good_waiting}
 use Rattle.routing_calls.proofs.Sightings.{wait_more, wait_latest, wait_full}
 use Rattle.routing_calls.proofs.seeing.waits.Goals as goal
+use Rattle.routing_calls.proofs.seeing.waits.Goals.{Joined-else-told-lt-REPLACEMENTS_EACH, Start}
 
-sized : (c : goal.Start) → Sized c.args.table
+sized : (c : Start) → Sized c.args.table
 sized c = record { entries = search (rules, length_mapped); replacements = search (rules, length_mapped) }
 
-told : (c : goal.Start) → Told c.args.table c.args.contact.id c.args.told
+told : (c : Start) → Told c.args.table c.args.contact.id c.args.told
 told c = told_facts _ _ _ c.requires.told_value c.requires.good_value
 
 -- where the test for room failed
-full : (c : goal.Joined-else-told-lt-REPLACEMENTS_EACH) → c.args.told.replacements < 4 → 16 ≤ c.args.table.waiting
+full : (c : Joined-else-told-lt-REPLACEMENTS_EACH) → c.args.told.replacements < 4 → 16 ≤ c.args.table.waiting
 full c h = ⊎_elim (λ w. omega (arith, ltb-false)) (λ w. omega (arith, ltb-false)) c.else-told-lt-REPLACEMENTS_EACH.branch
 
 pub returns-then-table-lt-REPLACEMENTS : goal.returns-then-table-lt-REPLACEMENTS
 returns-then-table-lt-REPLACEMENTS c =
     ap meaning_of c.replacement.ensures
     ∙ ap (λ (t : RoutingTable). as_replacement (view t)) c.replacement_added.ensures
-    ∙ wait_more _ _ _ (told c.before.before.before.before.before.before).replacements (sized c.before.before.before.before.before.before) (omega arith) (omega (arith, ltb-true))
+    ∙ wait_more _ _ _ (told (goal.at.returns-then-table-lt-REPLACEMENTS c).Start).replacements (sized (goal.at.returns-then-table-lt-REPLACEMENTS c).Start) (omega arith) (omega (arith, ltb-true))
 
 pub latest-requires : goal.latest-requires
-latest-requires c κs =
-    (search rules, good_waiting _ (told c.before.before.before.before.before).kept)
+latest-requires c =
+    (search rules, good_waiting _ (told (goal.at.latest-requires c).Start).kept)
 
 pub returns-then-told-table : goal.returns-then-told-table
 returns-then-told-table c =
-    let t = told c.before.before.before.before.before.before in
-    wait_latest _ _ _ t.replacements (full c.before.before.before.before) _ (search rules) _ c.latest.ensures (search rules)
+    let t = told (goal.at.returns-then-told-table c).Start in
+    wait_latest _ _ _ t.replacements (full (goal.at.returns-then-told-table c).Joined-else-told-lt-REPLACEMENTS_EACH) _ (search rules) _ c.latest.ensures (search rules)
 
 pub returns : goal.returns
 returns c =
-    let t = told c.before.before.before.before.before.before in
-    ap meaning_of c.refused.ensures ∙ wait_full _ _ _ t.replacements (full c.before.before.before.before) _ t.oldest _ (search rules) (search rules)
+    let t = told (goal.at.returns c).Start in
+    ap meaning_of c.refused.ensures ∙ wait_full _ _ _ t.replacements (full (goal.at.returns c).Joined-else-told-lt-REPLACEMENTS_EACH) _ t.oldest _ (search rules) (search rules)

@@ -8,15 +8,15 @@ use Rattle.snapshot.proofs.loading.key_passes.Goals as goal
 pub returns-then-key-gt1 : goal.returns-then-key-gt1
 returns-then-key-gt1 c =
     let a = c.args in
-    bad_selector a.t1 a.far a.first a.last a.cap c.if-key-gt1.true
+    bad_selector a.key a.far a.first a.last a.cap c.if-key-gt1.true
 
 pub returns-then-not-farther : goal.returns-then-not-farther
 returns-then-not-farther c =
     let a = c.args in
-    too_near a.t1 a.far a.first a.last a.cap _ c.farther.ensures (not-true _ c.if-not-farther.true-raw)
+    too_near a.key a.far a.first a.last a.cap _ c.farther.ensures (not-true _ c.if-not-farther.true-raw)
 
 pub returns : goal.returns
 returns c =
     let a = c.args in
-    by_cap a.t1 a.far a.first a.last a.cap _ _ c.if-key-gt1.false c.farther.ensures (not-false _ c.if-not-farther.false-raw)
+    by_cap a.key a.far a.first a.last a.cap _ _ c.if-key-gt1.false c.farther.ensures (not-false _ c.if-not-farther.false-raw)
     (λ e. let t = sym c.at_most.ensures ∙ e in omega (arith, leb-true)) (λ e. let t = sym c.at_most.ensures ∙ e in omega (arith, leb-false))

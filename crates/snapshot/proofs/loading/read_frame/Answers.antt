@@ -11,30 +11,35 @@ use Rattle.snapshot.proofs.loading.read_frame.Goals as goal
 pub returns-then-text-at : goal.returns-then-text-at
 returns-then-text-at c =
     let a = c.args in
-    short_line a.text.now a.at a.frame.now c.if-text-at.true
+    let clauses = short_line a.text.now a.at a.frame.now c.if-text-at.true in
+    record { value = clauses.0; frame_after = clauses.1 }
 
 pub returns-then-text-end-ne10 : goal.returns-then-text-end-ne10
 returns-then-text-end-ne10 c =
     let a = c.args in
-    unended_line a.text.now a.at a.frame.now c.if-text-end-ne10.true
+    let clauses = unended_line a.text.now a.at a.frame.now c.if-text-end-ne10.true in
+    record { value = clauses.0; frame_after = clauses.1 }
 
 pub returns-in-Bytes : goal.returns-in-Bytes
 returns-in-Bytes c =
     let a = c.args in
     let d = c.decode-decoded in
-    frame_read (drop a.at a.text.now) a.frame.now (omega (arith, c.if-text-at.false, length-drop a.at a.text.now))
-    (get_or-drop a.at a.text.now (2 * length a.frame.now) 0 ∙ c.if-text-end-ne10.false) (a.at + 2 * length a.frame.now - a.at) (omega arith) _ _ d.ensures.0 d.ensures.1 c.in-Bytes.is
+    let clauses = frame_read (drop a.at a.text.now) a.frame.now (omega (arith, c.if-text-at.false, length-drop a.at a.text.now))
+    (get_or-drop a.at a.text.now (2 * length a.frame.now) 0 ∙ c.if-text-end-ne10.false) (a.at + 2 * length a.frame.now - a.at) (omega arith) _ _ d.ensures.0 d.ensures.1 c.in-Bytes.is in
+    record { value = clauses.0; frame_after = clauses.1 }
 
 pub returns-in-NotHex : goal.returns-in-NotHex
 returns-in-NotHex c =
     let a = c.args in
     let d = c.decode-decoded in
-    frame_not (drop a.at a.text.now) a.frame.now (omega (arith, c.if-text-at.false, length-drop a.at a.text.now))
-    (get_or-drop a.at a.text.now (2 * length a.frame.now) 0 ∙ c.if-text-end-ne10.false) (a.at + 2 * length a.frame.now - a.at) (omega arith) _ _ d.ensures.0 d.ensures.1 c.in-NotHex.is
+    let clauses = frame_not (drop a.at a.text.now) a.frame.now (omega (arith, c.if-text-at.false, length-drop a.at a.text.now))
+    (get_or-drop a.at a.text.now (2 * length a.frame.now) 0 ∙ c.if-text-end-ne10.false) (a.at + 2 * length a.frame.now - a.at) (omega arith) _ _ d.ensures.0 d.ensures.1 c.in-NotHex.is in
+    record { value = clauses.0; frame_after = clauses.1 }
 
 pub returns-in-NoRoom : goal.returns-in-NoRoom
 returns-in-NoRoom c =
     let a = c.args in
     let d = c.decode-decoded in
-    absurd (frame_room (drop a.at a.text.now) a.frame.now (omega (arith, c.if-text-at.false, length-drop a.at a.text.now))
-    (get_or-drop a.at a.text.now (2 * length a.frame.now) 0 ∙ c.if-text-end-ne10.false) (a.at + 2 * length a.frame.now - a.at) (omega arith) _ _ d.ensures.0 d.ensures.1 c.in-NoRoom.is)
+    let clauses = absurd (frame_room (drop a.at a.text.now) a.frame.now (omega (arith, c.if-text-at.false, length-drop a.at a.text.now))
+    (get_or-drop a.at a.text.now (2 * length a.frame.now) 0 ∙ c.if-text-end-ne10.false) (a.at + 2 * length a.frame.now - a.at) (omega arith) _ _ d.ensures.0 d.ensures.1 c.in-NoRoom.is) in
+    record { value = clauses.0; frame_after = clauses.1 }

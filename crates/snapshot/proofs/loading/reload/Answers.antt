@@ -8,26 +8,24 @@ use Rattle.key_index.specs.View.{key_limit, view}
 use Rattle.key_index.specs.Good.{good}
 use Rattle.snapshot.proofs.Turns.{reload_bad, reload_line, reload_view}
 use Rattle.snapshot.proofs.loading.reload.Goals as goal
-
-abbrev start : goal.After-is_good → goal.Start
-start c = c.before.before.before.before.before.before
+use Rattle.snapshot.proofs.loading.reload.Goals.{After-is_good}
 
 -- what the test of the rules says
-tested : (c : goal.After-is_good) → good key_limit (view (start c).args.index) ≡ c.is_good.result
+tested : (c : After-is_good) → good key_limit (view c.args.index) ≡ c.is_good.result
 tested c = sym c.is_good.ensures
 
 pub returns-then-not-is_good : goal.returns-then-not-is_good
 returns-then-not-is_good c =
-    let a = (start c.before).args in
-    reload_bad key_limit a.t1 a.text.now (tested c.before ∙ not-true _ c.if-not-is_good.true-raw)
+    let a = c.args in
+    reload_bad key_limit a.index a.text.now (tested (goal.at.returns-then-not-is_good c).After-is_good ∙ not-true _ c.if-not-is_good.true-raw)
 
 pub returns-then-line-ne0 : goal.returns-then-line-ne0
 returns-then-line-ne0 c =
-    let a = (start c.before.before.before.before.before).args in
-    reload_line key_limit a.t1 a.text.now (tested c.before.before.before.before.before ∙ not-false _ c.if-not-is_good.false-raw) _ _ c.load-loaded.ensures _ (search rules)
+    let a = c.args in
+    reload_line key_limit a.index a.text.now (tested (goal.at.returns-then-line-ne0 c).After-is_good ∙ not-false _ c.if-not-is_good.false-raw) _ _ c.load-loaded.ensures _ (search rules)
     (omega (arith, c.if-line-ne0.true))
 
 pub returns : goal.returns
 returns c =
-    let a = (start c.before.before.before.before.before.before.before).args in
-    reload_view key_limit a.t1 a.text.now (tested c.before.before.before.before.before.before.before ∙ not-false _ c.if-not-is_good.false-raw) _ _ c.load-loaded.ensures (search rules)
+    let a = c.args in
+    reload_view key_limit a.index a.text.now (tested (goal.at.returns c).After-is_good ∙ not-false _ c.if-not-is_good.false-raw) _ _ c.load-loaded.ensures (search rules)

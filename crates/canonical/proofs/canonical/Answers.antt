@@ -25,14 +25,14 @@ lent c = omega (arith, c.if-epochs-epoch.false)
 
 -- the verdict, by whether the roots are the same
 verdict : (c : After-same) (answer : Bool) → answer ≡ c.same.result
-    → let a = (start c.before.before.before.before.before.before.before.before).args in
+    → let a = c.args in
     given answer ≡ canonical_of a.number a.hash.now a.proof.now a.roots.now
 verdict c answer is =
     let g = good c.before.before.before.before.before.before.before in
     let l = lent c.before.before.before.before.before.before in
     judged _ _ _ _ g l _ _ _ c.same.ensures
-    (computed_is _ _ _ _ g l _ _ _ c.before.before.before.before.root_along_lem.ensures (omega arith) c.before.before.before.before.before.part32.ensures)
-    (wanted_is _ _ _ _ g l _ _ c.before.before.before.part322.ensures (omega arith))
+    (computed_is _ _ _ _ g l _ _ _ c.root_along-computed.ensures (omega arith) c.part32-leaf.ensures)
+    (wanted_is _ _ _ _ g l _ _ c.part32-wanted.ensures (omega arith))
     answer is
 
 pub returns-then-not-lengths_good : goal.returns-then-not-lengths_good

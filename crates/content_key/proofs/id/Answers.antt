@@ -12,8 +12,8 @@ use Rattle.content_key.proofs.Listing.{id_through}
 use Rattle.content_key.proofs.id.Goals as goal
 use Rattle.content_key.proofs.id.Goals.{After-table-table}
 
-byte : (c : After-table-table) (i : ℕ) → get_or c.before.args.key i 0 < 256
-byte c i = let f : Fits w8 (get_or c.before.args.key i 0) = search rules in omega arith
+byte : (c : After-table-table) (i : ℕ) → get_or c.args.key i 0 < 256
+byte c i = let f : Fits w8 (get_or c.args.key i 0) = search rules in omega arith
 
 pub bounds-table-key : goal.bounds-table-key
 bounds-table-key c = byte c _

@@ -54,9 +54,9 @@ zeros : (c : In-loop-at) → count_leading_zeros 8 (byte c) ≤ 8
 zeros c = leading_le 8 (byte c)
 
 -- the answer, from the bit length of what is left at the loop's head
-answer : (c : At-loop-at) (r : ℕ) → r ≡ bit_length 256 (be (drop c.loop.at c.before.xor.result))
-    → r ≡ log_distance_of c.before.before.args.a c.before.before.args.b
-answer c r e = e ∙ ap (bit_length 256) (sym c.loop.invariant.2 ∙ ap be c.before.xor.ensures)
+answer : (c : At-loop-at) (r : ℕ) → r ≡ bit_length 256 (be (drop c.loop-at.at c.xor-d.result))
+    → r ≡ log_distance_of c.args.a c.args.b
+answer c r e = e ∙ ap (bit_length 256) (sym c.loop-at.invariant.2 ∙ ap be c.xor-d.ensures)
 
 pub overflow_cast-result : goal.overflow_cast-result
 overflow_cast-result c = omega (arith, zeros (goal.at.overflow_cast-result c).In-loop-at)

@@ -3,7 +3,6 @@
 use mathlib.Core.Path.{sym}
 use mathlib.Core.Logic.{⊎_elim, inl, inr}
 use borrow.Author.Rules.{rules}
-use borrow.Author.Tests.{leb-false}
 use Rattle.hexadecimal.proofs.Digits.{value_of_decimal, value_of_letter, value_of_other}
 use Rattle.hexadecimal.proofs.value.Goals as goal
 
@@ -15,6 +14,4 @@ returns-then-c-le102 c = sym (value_of_letter _ (search rules) (search rules))
 
 pub returns-else-c-ge97 : goal.returns-else-c-ge97
 returns-else-c-ge97 c =
-    sym (value_of_other _
-    (⊎_elim (λ w. inr (leb-false _ _ w.1.left)) (λ w. inl w.left) c.else-c-ge48.branch)
-    (⊎_elim (λ w. inr (leb-false _ _ w.1.left)) (λ w. inl w.left) c.else-c-ge97.branch))
+    sym (value_of_other _ (⊎_elim inl (λ w. inr w.1) c.else-c-ge48.either) (⊎_elim inl (λ w. inr w.1) c.else-c-ge97.either))

@@ -7,11 +7,11 @@ use Rattle.sha256_block.proofs.added.Goals as goal
 pub returns : goal.returns
 unfolding sums
 returns c = state_is _ _ _ _ _ _ _ _ _ _ _ _ _ _ _ _
-    (sum_is _ _ _ _ _ c.wrapping_add_u32-a.ensures refl refl)
-    (sum_is _ _ _ _ _ c.wrapping_add_u32-b.ensures refl refl)
-    (sum_is _ _ _ _ _ c.wrapping_add_u32-c.ensures refl refl)
-    (sum_is _ _ _ _ _ c.wrapping_add_u32-d.ensures refl refl)
-    (sum_is _ _ _ _ _ c.wrapping_add_u32-e.ensures refl refl)
-    (sum_is _ _ _ _ _ c.wrapping_add_u32-f.ensures refl refl)
-    (sum_is _ _ _ _ _ c.wrapping_add_u32-g.ensures refl refl)
-    (sum_is _ _ _ _ _ c.wrapping_add_u32-h.ensures refl refl)
+    (sum_is _ _ _ _ _ c.wrapping_add_u32-a.ensures.value refl refl)
+    (sum_is _ _ _ _ _ c.wrapping_add_u32-b.ensures.value refl refl)
+    (sum_is _ _ _ _ _ c.wrapping_add_u32-c.ensures.value refl refl)
+    (sum_is _ _ _ _ _ c.wrapping_add_u32-d.ensures.value refl refl)
+    (sum_is _ _ _ _ _ c.wrapping_add_u32-e.ensures.value refl refl)
+    (sum_is _ _ _ _ _ c.wrapping_add_u32-f.ensures.value refl refl)
+    (sum_is _ _ _ _ _ c.wrapping_add_u32-g.ensures.value refl refl)
+    (sum_is _ _ _ _ _ c.wrapping_add_u32-h.ensures.value refl refl)

@@ -7,7 +7,7 @@ use Rattle.sha256_block.proofs.first_sum.Goals as goal
 
 pub returns : goal.returns
 unfolding SHR SHL ROTR NOT Ch Σ1 T1
-returns c = sum_is _ _ _ _ _ c.wrapping_add_u32-3.ensures
-    (sum_is _ _ _ _ _ c.wrapping_add_u32-2.ensures
-    (sum_is _ _ _ _ _ c.wrapping_add_u32-sum.ensures
-    (sum_is _ _ _ _ _ c.wrapping_add_u32.ensures refl refl) refl) refl) refl
+returns c = sum_is _ _ _ _ _ c.wrapping_add_u32-3.ensures.value
+    (sum_is _ _ _ _ _ c.wrapping_add_u32-2.ensures.value
+    (sum_is _ _ _ _ _ c.wrapping_add_u32-sum.ensures.value
+    (sum_is _ _ _ _ _ c.wrapping_add_u32.ensures.value refl refl) refl) refl) refl

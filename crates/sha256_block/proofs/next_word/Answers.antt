@@ -7,5 +7,5 @@ use Rattle.sha256_block.proofs.next_word.Goals as goal
 
 pub returns : goal.returns
 unfolding SHR SHL ROTR σ0 σ1 next_of
-returns c = sum_is _ _ _ _ _ c.wrapping_add_u32-3.ensures
-    (sum_is _ _ _ _ _ c.wrapping_add_u32-2.ensures (sum_is _ _ _ _ _ c.wrapping_add_u32.ensures refl refl) refl) refl
+returns c = sum_is _ _ _ _ _ c.wrapping_add_u32-3.ensures.value
+    (sum_is _ _ _ _ _ c.wrapping_add_u32-2.ensures.value (sum_is _ _ _ _ _ c.wrapping_add_u32.ensures.value refl refl) refl) refl

@@ -8,11 +8,11 @@ pub returns : goal.returns
 unfolding round
 returns c = let t1 = c.first_sum-t1.ensures in
     state_is _ _ _ _ _ _ _ _ _ _ _ _ _ _ _ _
-    (sum_is _ _ _ _ _ c.wrapping_add_u32-a.ensures t1 c.second_sum-t2.ensures)
+    (sum_is _ _ _ _ _ c.wrapping_add_u32-a.ensures.value t1 c.second_sum-t2.ensures)
     refl
     refl
     refl
-    (sum_is _ _ _ _ _ c.wrapping_add_u32-e.ensures refl t1)
+    (sum_is _ _ _ _ _ c.wrapping_add_u32-e.ensures.value refl t1)
     refl
     refl
     refl

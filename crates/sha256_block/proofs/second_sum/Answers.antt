@@ -7,4 +7,4 @@ use Rattle.sha256_block.proofs.second_sum.Goals as goal
 
 pub returns : goal.returns
 unfolding SHR SHL ROTR Maj Σ0 T2
-returns c = sum_is _ _ _ _ _ c.wrapping_add_u32.ensures refl refl
+returns c = sum_is _ _ _ _ _ c.wrapping_add_u32.ensures.value refl refl

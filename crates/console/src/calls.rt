@@ -289,113 +289,113 @@ fn unchanged(
 
 // The call that a word names.
 fn call_of(name: &[u8]) -> Call {
-    if check::same(name, b"id") {
+    if octets::same(name, b"id") {
         return Call::Id;
     }
-    if check::same(name, b"distance") {
+    if octets::same(name, b"distance") {
         return Call::Distance;
     }
-    if check::same(name, b"interested") {
+    if octets::same(name, b"interested") {
         return Call::Interested;
     }
-    if check::same(name, b"asked") {
+    if octets::same(name, b"asked") {
         return Call::Asked;
     }
-    if check::same(name, b"content") {
+    if octets::same(name, b"content") {
         return Call::Content;
     }
-    if check::same(name, b"read") {
+    if octets::same(name, b"read") {
         return Call::Read;
     }
-    if check::same(name, b"write") {
+    if octets::same(name, b"write") {
         return Call::Write;
     }
-    if check::same(name, b"buffer") {
+    if octets::same(name, b"buffer") {
         return Call::Buffer;
     }
-    if check::same(name, b"help") {
+    if octets::same(name, b"help") {
         return Call::Help;
     }
     index_call(name)
 }
 
 fn index_call(name: &[u8]) -> Call {
-    if check::same(name, b"fresh") {
+    if octets::same(name, b"fresh") {
         return Call::Fresh;
     }
-    if check::same(name, b"store") {
+    if octets::same(name, b"store") {
         return Call::Store;
     }
-    if check::same(name, b"remove") {
+    if octets::same(name, b"remove") {
         return Call::Remove;
     }
-    if check::same(name, b"radius") {
+    if octets::same(name, b"radius") {
         return Call::Radius;
     }
-    if check::same(name, b"keys") {
+    if octets::same(name, b"keys") {
         return Call::Keys;
     }
-    if check::same(name, b"save") {
+    if octets::same(name, b"save") {
         return Call::Save;
     }
-    if check::same(name, b"load") {
+    if octets::same(name, b"load") {
         return Call::Load;
     }
     table_call(name)
 }
 
 fn table_call(name: &[u8]) -> Call {
-    if check::same(name, b"table") {
+    if octets::same(name, b"table") {
         return Call::Table;
     }
-    if check::same(name, b"seen") {
+    if octets::same(name, b"seen") {
         return Call::Seen;
     }
-    if check::same(name, b"failed") {
+    if octets::same(name, b"failed") {
         return Call::Failed;
     }
-    if check::same(name, b"rows") {
+    if octets::same(name, b"rows") {
         return Call::Rows;
     }
-    if check::same(name, b"waiting") {
+    if octets::same(name, b"waiting") {
         return Call::Waiting;
     }
-    if check::same(name, b"entry") {
+    if octets::same(name, b"entry") {
         return Call::Entry;
     }
     reply_call(name)
 }
 
 fn reply_call(name: &[u8]) -> Call {
-    if check::same(name, b"own") {
+    if octets::same(name, b"own") {
         return Call::Own;
     }
-    if check::same(name, b"lend") {
+    if octets::same(name, b"lend") {
         return Call::Lend;
     }
-    if check::same(name, b"reply") {
+    if octets::same(name, b"reply") {
         return Call::Reply;
     }
     header_call(name)
 }
 
 fn header_call(name: &[u8]) -> Call {
-    if check::same(name, b"sha256") {
+    if octets::same(name, b"sha256") {
         return Call::Sha256;
     }
-    if check::same(name, b"roots") {
+    if octets::same(name, b"roots") {
         return Call::Roots;
     }
-    if check::same(name, b"records") {
+    if octets::same(name, b"records") {
         return Call::Records;
     }
-    if check::same(name, b"canonical") {
+    if octets::same(name, b"canonical") {
         return Call::Canonical;
     }
-    if check::same(name, b"root") {
+    if octets::same(name, b"root") {
         return Call::Root;
     }
-    if check::same(name, b"proof") {
+    if octets::same(name, b"proof") {
         return Call::Proof;
     }
     Call::None

@@ -8,7 +8,8 @@ mod help;
 
 use calls::{Answered, State};
 use console_text::{answer, words};
-use libc::{STDIN_FILENO, STDOUT_FILENO};
+use std::io;
+use std::io::Read;
 
 // A line that has begun: how many of its characters the line buffer holds, and whether it is longer than that.
 #[derive(Clone, Copy)]
@@ -32,30 +33,42 @@ struct Kept {
     held: Held,
 }
 
-// What a read left, and whether there may be more.
-#[derive(Clone, Copy)]
-struct Turn {
-    kept: Kept,
-    more: bool,
-}
-
-fn main() {
-    let mut input = io::large_buffer();
-    let mut line = io::large_buffer();
+fn main(rt: HostRuntime) -> io::Result<()> {
+    let mut input = [0u8; 65536];
+    let mut line = [0u8; 65536];
     let mut lists = console_headers::empty();
-    let mut data = io::large_buffer();
-    let mut spare = io::large_buffer();
+    let mut data = [0u8; 65536];
+    let mut spare = [0u8; 65536];
     let mut out = answer_buffer();
-    let kept = read_lines(
-        &mut input, &mut line, &mut lists, &mut data, &mut spare, &mut out,
-    );
+    let mut kept = Kept {
+        state: calls::start(),
+        held: nothing(),
+    };
+    read_lines(
+        &rt,
+        &mut rt.reader(),
+        &mut kept,
+        &mut input,
+        &mut line,
+        &mut lists,
+        &mut data,
+        &mut spare,
+        &mut out,
+    )?;
     let held = kept.held;
     if held.long || held.len > 0 {
-        let state = kept.state;
         answer_line(
-            state, held, &line, &mut lists, &mut data, &mut spare, &mut out,
-        );
+            &rt,
+            &mut kept.state,
+            held,
+            &line,
+            &mut lists,
+            &mut data,
+            &mut spare,
+            &mut out,
+        )?;
     }
+    Ok(())
 }
 
 // 131,072 zeros: the line of a reply may be longer than one that is read.
@@ -65,31 +78,25 @@ fn answer_buffer() -> [u8; 131072]
     [0; 131072]
 }
 
-// Answers every line that ends, and hands back the one that the input leaves unended. Nothing says that an input ends, so the
-// loop counts its turns down, from a number that no run uses up.
+// Answers every line that ends, and keeps the one that the input leaves unended. Nothing says that an input ends, so the loop
+// counts its turns down, from a number that no run uses up.
 fn read_lines(
+    rt: &impl Print,
+    reader: &mut impl Read,
+    kept: &mut Kept,
     input: &mut [u8],
     line: &mut [u8],
     lists: &mut [u8],
     data: &mut [u8],
     spare: &mut [u8],
     out: &mut [u8],
-) -> Kept {
-    let state = calls::start();
-    let mut turn = Turn {
-        kept: Kept {
-            state,
-            held: nothing(),
-        },
-        more: true,
-    };
+) -> io::Result<()> {
     let mut turns = u64::MAX;
     while turns > 0 {
-        let kept = turn.kept;
-        turn = read_some(kept, input, line, lists, data, spare, out);
-        turns = left(turns, turn.more);
+        let more = read_some(rt, reader, kept, input, line, lists, data, spare, out)?;
+        turns = left(turns, more);
     }
-    turn.kept
+    Ok(())
 }
 
 // One turn less, and none where there is no more to read.
@@ -100,26 +107,33 @@ fn left(turns: u64, more: bool) -> u64
     if more { turns - 1 } else { 0 }
 }
 
-// Reads once, and answers the lines that end in what came.
+// Reads once, answers the lines that end in what came, and says whether there may be more.
 fn read_some(
-    kept: Kept,
+    rt: &impl Print,
+    reader: &mut impl Read,
+    kept: &mut Kept,
     input: &mut [u8],
     line: &mut [u8],
     lists: &mut [u8],
     data: &mut [u8],
     spare: &mut [u8],
     out: &mut [u8],
-) -> Turn {
-    let got = libc::read(STDIN_FILENO, input);
-    if got <= 0 {
-        return Turn { kept, more: false };
+) -> io::Result<bool> {
+    let n = reader.read(input)?;
+    if n == 0 {
+        return Ok(false);
     }
-    let n = io::count(got, input);
-    let next = read_block(kept, words::front(input, n), line, lists, data, spare, out);
-    Turn {
-        kept: next,
-        more: true,
-    }
+    read_block(
+        rt,
+        kept,
+        words::front(input, n),
+        line,
+        lists,
+        data,
+        spare,
+        out,
+    )?;
+    Ok(true)
 }
 
 fn nothing() -> Held {
@@ -131,45 +145,44 @@ fn nothing() -> Held {
 
 // Takes a block of the input, line by line.
 fn read_block(
-    kept: Kept,
+    rt: &impl Print,
+    kept: &mut Kept,
     block: &[u8],
     line: &mut [u8],
     lists: &mut [u8],
     data: &mut [u8],
     spare: &mut [u8],
     out: &mut [u8],
-) -> Kept {
-    let mut kept = kept;
+) -> io::Result<()> {
     let mut at = 0;
     while at < block.len() {
         let held = kept.held;
         let taken = take_line(held, block, at, line);
-        kept = answer_taken(kept, taken, line, lists, data, spare, out);
+        answer_taken(rt, kept, taken, line, lists, data, spare, out)?;
         at = taken.next;
     }
-    kept
+    Ok(())
 }
 
 // Answers a line that has ended, and begins the next; one that has not ended is kept.
 fn answer_taken(
-    kept: Kept,
+    rt: &impl Print,
+    kept: &mut Kept,
     taken: Taken,
     line: &[u8],
     lists: &mut [u8],
     data: &mut [u8],
     spare: &mut [u8],
     out: &mut [u8],
-) -> Kept {
-    let state = kept.state;
+) -> io::Result<()> {
     let held = taken.held;
     if taken.ended {
-        let next = answer_line(state, held, line, lists, data, spare, out);
-        return Kept {
-            state: next,
-            held: nothing(),
-        };
+        answer_line(rt, &mut kept.state, held, line, lists, data, spare, out)?;
+        kept.held = nothing();
+    } else {
+        kept.held = held;
     }
-    Kept { state, held }
+    Ok(())
 }
 
 // Reads up to a line feed or the block's end.
@@ -211,19 +224,20 @@ fn keep(held: Held, c: u8, line: &mut [u8]) -> Held {
     Held { len, long: true }
 }
 
-// Answers a line, and hands back the state to go on with.
+// Answers a line, and leaves the state to go on with.
 fn answer_line(
-    state: State,
+    rt: &impl Print,
+    state: &mut State,
     held: Held,
     line: &[u8],
     lists: &mut [u8],
     data: &mut [u8],
     spare: &mut [u8],
     out: &mut [u8],
-) -> State {
-    let answered = answer_to(state, held, line, lists, data, spare, out);
-    io::write_all(STDOUT_FILENO, words::front(out, answered.len));
-    answered.state
+) -> io::Result<()> {
+    let answered = answer_to(*state, held, line, lists, data, spare, out);
+    *state = answered.state;
+    rt.write_all(words::front(out, answered.len))
 }
 
 // Puts the answer to a line into out: `error` for one that is too long, else what it asks.

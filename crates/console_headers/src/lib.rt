@@ -112,7 +112,7 @@ fn longer(
         return Grown::Not;
     }
     let word = words::word(line, words, 1);
-    if check::same(word, b"-") {
+    if octets::same(word, b"-") {
         return Grown::To(start);
     }
     put(word, lists, end, most)

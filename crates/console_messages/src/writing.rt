@@ -85,35 +85,35 @@ fn make(line: &[u8], words: Words, data: &mut [u8], buffer: &mut [u8]) -> Reply 
 }
 
 fn name_of(word: &[u8]) -> Name {
-    if check::same(word, b"ping") {
+    if octets::same(word, b"ping") {
         return Name::Ping;
     }
-    if check::same(word, b"pong") {
+    if octets::same(word, b"pong") {
         return Name::Pong;
     }
-    if check::same(word, b"findnode") {
+    if octets::same(word, b"findnode") {
         return Name::FindNode;
     }
-    if check::same(word, b"foundnodes") {
+    if octets::same(word, b"foundnodes") {
         return Name::FoundNodes;
     }
-    if check::same(word, b"store") {
+    if octets::same(word, b"store") {
         return Name::Store;
     }
     key_name(word)
 }
 
 fn key_name(word: &[u8]) -> Name {
-    if check::same(word, b"findcontent") {
+    if octets::same(word, b"findcontent") {
         return Name::FindContent;
     }
-    if check::same(word, b"foundcontent") {
+    if octets::same(word, b"foundcontent") {
         return Name::FoundContent;
     }
-    if check::same(word, b"offer") {
+    if octets::same(word, b"offer") {
         return Name::Offer;
     }
-    if check::same(word, b"accept") {
+    if octets::same(word, b"accept") {
         return Name::Accept;
     }
     Name::None

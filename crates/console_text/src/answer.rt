@@ -27,9 +27,17 @@ pub fn bytes(out: &mut [u8], at: usize, bytes: &[u8]) -> usize {
 }
 
 pub fn decimal(out: &mut [u8], at: usize, n: u64) -> usize {
-    let mut digits = [0u8; 20];
-    let k = io::decimal(n, &mut digits);
-    text(out, at, &digits[..k])
+    let mut digits = [b'0'; 20];
+    let mut first = 19usize;
+    let mut rest = n;
+    for i in (0..20usize).rev() {
+        digits[i] = b'0' + (rest % 10) as u8;
+        if rest > 0 {
+            first = i;
+        }
+        rest /= 10;
+    }
+    text(out, at, &digits[first..])
 }
 
 // Two numbers with a space between them.

@@ -81,7 +81,7 @@ pub fn bytes(word: &[u8], data: &mut [u8]) -> Decoded {
     if word.len() == 0 {
         return Decoded::NotHex;
     }
-    if check::same(word, b"-") {
+    if octets::same(word, b"-") {
         return Decoded::Bytes(0);
     }
     hexadecimal::decode(word, data)
@@ -89,7 +89,7 @@ pub fn bytes(word: &[u8], data: &mut [u8]) -> Decoded {
 
 // A snapshot's text, at the start of data: `|` stands for a line feed, and `-` alone for no text. Answers its length.
 pub fn unbarred(word: &[u8], data: &mut [u8]) -> usize {
-    if check::same(word, b"-") {
+    if octets::same(word, b"-") {
         return 0;
     }
     if data.len() < word.len() {

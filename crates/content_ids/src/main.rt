@@ -6,54 +6,61 @@
 ghost use Rattle.std.specs.Prelude.{◌≤◌, length};
 
 use key_lines::Line;
-use libc::{STDIN_FILENO, STDOUT_FILENO};
+use std::io;
+use std::io::Read;
 
-fn main() {
-    let mut input = io::large_buffer();
-    let mut out = io::large_buffer();
-    let line = list_input(&mut input, &mut out);
+fn main(rt: HostRuntime) -> io::Result<()> {
+    let mut input = [0u8; 65536];
+    let mut out = [0u8; 65536];
+    let line = list_input(&rt, &mut rt.reader(), &mut input, &mut out)?;
     let printed = key_lines::last(line);
     let text = printed.text;
-    write_front(&text, printed.len);
+    write_front(&rt, &text, printed.len)
 }
 
 // Writes the first n bytes, which the caller's `text` has.
-fn write_front(text: &[u8], n: usize) {
+fn write_front(rt: &impl Print, text: &[u8], n: usize) -> io::Result<()> {
     if n <= text.len() {
-        io::write_all(STDOUT_FILENO, &text[..n]);
+        rt.write_all(&text[..n])
+    } else {
+        Ok(())
     }
 }
 
 // Lists the whole input, and hands back the line that it leaves unended. Nothing says that an input ends, so the loop counts its
 // turns down, from a number that no run uses up.
-fn list_input(input: &mut [u8], out: &mut [u8]) -> Line
+fn list_input(
+    rt: &impl Print,
+    reader: &mut impl Read,
+    input: &mut [u8],
+    out: &mut [u8],
+) -> io::Result<Line>
     requires { 65 ≤ length out.old }
 {
     let mut line = key_lines::fresh();
     let mut turns = u64::MAX;
     while turns > 0 {
-        let got = libc::read(STDIN_FILENO, input);
-        if got <= 0 {
+        let n = reader.read(input)?;
+        if n == 0 {
             break;
         }
-        let n = io::count(got, input);
-        line = list_block(line, &input[..n], out);
+        line = list_block(rt, line, &input[..n], out)?;
         turns -= 1;
     }
-    line
+    Ok(line)
 }
 
 // Lists a block, and writes each time as much as the buffer takes.
-fn list_block(line: Line, block: &[u8], out: &mut [u8]) -> Line
+fn list_block(rt: &impl Print, line: Line, block: &[u8], out: &mut [u8]) -> io::Result<Line>
     requires { 65 ≤ length out.old }
 {
     let mut line = line;
     let mut at = 0;
     while at < block.len() {
         let listed = key_lines::list(line, &block[at..], out);
-        write_front(out, listed.written);
+        write_front(rt, out, listed.written)?;
         line = listed.line;
         at += listed.used;
     }
-    line
+    Ok(line)
 }

@@ -4,47 +4,62 @@
 use console_text::{answer, words};
 use key_index::{Holding, KeyIndex};
 use key_store::Stored;
-use libc::STDOUT_FILENO;
 use refusal::{Checked, Wrote};
 use rlp::Payload;
+use std::io;
 
-fn main() {
+fn main(rt: HostRuntime) -> io::Result<()> {
     let ones = [255u8; 32];
     let zeros = [0u8; 32];
     let first = key(0, 1);
     let second = key(0, 2);
-    show(b"empty", index(ones, 0, 0, first, second));
+    show(&rt, b"empty", index(ones, 0, 0, first, second))?;
     show(
+        &rt,
         b"empty, other unused bytes",
         index(ones, 238, 0, first, second),
-    );
-    show(b"two keys", index(ones, 0, 2, first, second));
+    )?;
+    show(&rt, b"two keys", index(ones, 0, 2, first, second))?;
     show(
+        &rt,
         b"two keys, other unused bytes",
         index(ones, 255, 2, first, second),
-    );
-    show(b"a key at the cap", index(zeros, 0, 1, key(0, 0), second));
-    show_broken(ones, zeros, first, second);
+    )?;
+    show(
+        &rt,
+        b"a key at the cap",
+        index(zeros, 0, 1, key(0, 0), second),
+    )?;
+    show_broken(&rt, ones, zeros, first, second)
 }
 
-fn show_broken(ones: [u8; 32], zeros: [u8; 32], first: [u8; 9], second: [u8; 9]) {
-    show(b"a key over the cap", index(zeros, 0, 1, first, second));
-    show(b"3001 keys", index(ones, 0, 3001, first, second));
+fn show_broken(
+    rt: &impl Print,
+    ones: [u8; 32],
+    zeros: [u8; 32],
+    first: [u8; 9],
+    second: [u8; 9],
+) -> io::Result<()> {
+    show(rt, b"a key over the cap", index(zeros, 0, 1, first, second))?;
+    show(rt, b"3001 keys", index(ones, 0, 3001, first, second))?;
     show(
+        rt,
         b"the largest count",
         index(ones, 0, usize::MAX, first, second),
-    );
-    show(b"a bad selector", index(ones, 0, 2, first, key(2, 2)));
+    )?;
+    show(rt, b"a bad selector", index(ones, 0, 2, first, key(2, 2)))?;
     show(
+        rt,
         b"the largest selector",
         index(ones, 0, 1, key(255, 1), second),
-    );
-    show(b"farthest first", index(ones, 0, 2, second, first));
-    show(b"equal keys", index(ones, 0, 2, first, first));
+    )?;
+    show(rt, b"farthest first", index(ones, 0, 2, second, first))?;
+    show(rt, b"equal keys", index(ones, 0, 2, first, first))?;
     show(
+        rt,
         b"3000 keys, most of them equal",
         index(ones, 0, 3000, first, second),
-    );
+    )
 }
 
 // A key by its selector and a small block number.
@@ -66,7 +81,7 @@ fn index(cap: [u8; 32], fill: u8, count: usize, first: [u8; 9], second: [u8; 9])
 }
 
 // Prints what the calls answer on the index.
-fn show(name: &[u8], index: KeyIndex) {
+fn show(rt: &impl Print, name: &[u8], index: KeyIndex) -> io::Result<()> {
     let mut out = [0u8; 1024];
     let named = answer::text(&mut out, 0, name);
     let at = answer::end(&mut out, named);
@@ -76,7 +91,7 @@ fn show(name: &[u8], index: KeyIndex) {
     let removed = remove_line(index, &mut out, stored);
     let saved = save_line(index, &mut out, removed);
     let last = reload_line(index, &mut out, saved);
-    io::write_all(STDOUT_FILENO, words::front(&out, last));
+    rt.write_all(words::front(&out, last))
 }
 
 fn radius_line(index: KeyIndex, out: &mut [u8], from: usize) -> usize {
@@ -192,7 +207,7 @@ fn save_line(index: KeyIndex, out: &mut [u8], from: usize) -> usize {
 // Whether the buffer behind the first n bytes is as it was.
 fn rest_word(buffer: &[u8], n: usize, out: &mut [u8], at: usize) -> usize {
     let before = [7u8; 5200];
-    if check::same(words::back(buffer, n), words::back(&before, n)) {
+    if octets::same(words::back(buffer, n), words::back(&before, n)) {
         answer::text(out, at, b"all else as it was, ")
     } else {
         answer::text(out, at, b"another buffer, ")
@@ -254,15 +269,15 @@ fn same(a: KeyIndex, b: KeyIndex) -> bool {
     }
     let a_node = a.node;
     let b_node = b.node;
-    if !check::same(&a_node, &b_node) {
+    if !octets::same(&a_node, &b_node) {
         return false;
     }
     let a_cap = a.cap;
     let b_cap = b.cap;
-    if !check::same(&a_cap, &b_cap) {
+    if !octets::same(&a_cap, &b_cap) {
         return false;
     }
     let a_keys = a.keys;
     let b_keys = b.keys;
-    check::same(&a_keys, &b_keys)
+    octets::same(&a_keys, &b_keys)
 }

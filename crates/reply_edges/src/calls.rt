@@ -110,7 +110,7 @@ fn left(
     let said = lengths_word(is_zeros(lens, n), out, from);
     let before = pattern();
     let at = buffer_word(
-        check::same(words::back(buffer, size), words::back(&before, size)),
+        octets::same(words::back(buffer, size), words::back(&before, size)),
         out,
         said,
     );

@@ -7,20 +7,20 @@ mod calls;
 use calls::Setting;
 use console_text::{answer, words};
 use key_index::KeyIndex;
-use libc::STDOUT_FILENO;
 use routing_table::RoutingTable;
+use std::io;
 
-fn main() {
-    show_indexes();
-    show_broken_indexes();
-    show_counts();
-    show_logs();
-    show_ids();
-    show_records();
-    show_both();
-    show_unused();
-    show_rooms();
-    show_refusals();
+fn main(rt: HostRuntime) -> io::Result<()> {
+    show_indexes(&rt)?;
+    show_broken_indexes(&rt)?;
+    show_counts(&rt)?;
+    show_logs(&rt)?;
+    show_ids(&rt)?;
+    show_records(&rt)?;
+    show_both(&rt)?;
+    show_unused(&rt)?;
+    show_rooms(&rt)?;
+    show_refusals(&rt)
 }
 
 // A key by its selector and the last byte of a block number that is 90 in the byte before it.
@@ -55,266 +55,316 @@ fn reach(less: u8) -> [u8; 32] {
     far
 }
 
-fn show_indexes() {
+fn show_indexes(rt: &impl Print) -> io::Result<()> {
     let ones = [255u8; 32];
     let some = edge_tables::some();
     let near = key(0, 90);
     let far = key(0, 91);
-    show(b"two keys", two(), some);
+    show(rt, b"two keys", two(), some)?;
     show(
+        rt,
         b"two keys, other unused bytes",
         index(ones, 255, 2, near, far),
         some,
-    );
-    show(b"no keys", index(ones, 0, 0, near, far), some);
+    )?;
+    show(rt, b"no keys", index(ones, 0, 0, near, far), some)?;
     show(
+        rt,
         b"no keys, other unused bytes",
         index(ones, 238, 0, near, far),
         some,
-    );
-    show(b"a key at the cap", index(reach(0), 0, 1, near, far), some);
+    )?;
+    show(
+        rt,
+        b"a key at the cap",
+        index(reach(0), 0, 1, near, far),
+        some,
+    )
 }
 
-fn show_broken_indexes() {
+fn show_broken_indexes(rt: &impl Print) -> io::Result<()> {
     let ones = [255u8; 32];
     let some = edge_tables::some();
     let near = key(0, 90);
     let far = key(0, 91);
     show(
+        rt,
         b"a key over the cap",
         index(reach(1), 0, 1, near, far),
         some,
-    );
-    show(b"3001 keys", index(ones, 0, 3001, near, far), some);
+    )?;
+    show(rt, b"3001 keys", index(ones, 0, 3001, near, far), some)?;
     show(
+        rt,
         b"the largest count",
         index(ones, 0, usize::MAX, near, far),
         some,
-    );
-    show(b"a bad selector", index(ones, 0, 2, near, key(2, 91)), some);
+    )?;
     show(
+        rt,
+        b"a bad selector",
+        index(ones, 0, 2, near, key(2, 91)),
+        some,
+    )?;
+    show(
+        rt,
         b"the largest selector",
         index(ones, 0, 1, key(255, 90), far),
         some,
-    );
-    show(b"farthest first", index(ones, 0, 2, far, near), some);
-    show(b"equal keys", index(ones, 0, 2, near, near), some);
+    )?;
+    show(rt, b"farthest first", index(ones, 0, 2, far, near), some)?;
+    show(rt, b"equal keys", index(ones, 0, 2, near, near), some)?;
     show(
+        rt,
         b"3000 keys, most of them equal",
         index(ones, 0, 3000, near, far),
         some,
-    );
+    )
 }
 
-fn show_counts() {
+fn show_counts(rt: &impl Print) -> io::Result<()> {
     let all = edge_tables::most();
-    show(b"no contacts", two(), edge_tables::none());
-    show(b"128 entries and 16 replacements", two(), all);
-    show(b"129 entries", two(), edge_tables::counted(all, 129, 16));
+    show(rt, b"no contacts", two(), edge_tables::none())?;
+    show(rt, b"128 entries and 16 replacements", two(), all)?;
     show(
+        rt,
+        b"129 entries",
+        two(),
+        edge_tables::counted(all, 129, 16),
+    )?;
+    show(
+        rt,
         b"the largest number of entries",
         two(),
         edge_tables::counted(all, usize::MAX, 16),
-    );
+    )?;
     show(
+        rt,
         b"17 replacements",
         two(),
         edge_tables::counted(all, 128, 17),
-    );
+    )?;
     show(
+        rt,
         b"the largest number of replacements",
         two(),
         edge_tables::counted(all, 128, usize::MAX),
-    );
+    )
 }
 
-fn show_logs() {
+fn show_logs(rt: &impl Print) -> io::Result<()> {
     let fifteen = edge_tables::entries(edge_tables::none(), 1, 15);
     let full = edge_tables::entries(edge_tables::none(), 1, 16);
-    show(b"16 entries of one log distance", two(), full);
+    show(rt, b"16 entries of one log distance", two(), full)?;
     show(
+        rt,
         b"17 entries of one log distance",
         two(),
         edge_tables::entries(edge_tables::none(), 1, 17),
-    );
+    )?;
     show(
+        rt,
         b"4 replacements of one log distance",
         two(),
         edge_tables::replacements(full, 1, 20),
-    );
+    )?;
     show(
+        rt,
         b"5 replacements of one log distance",
         two(),
         edge_tables::replacements(full, 1, 21),
-    );
+    )?;
     show(
+        rt,
         b"a replacement where there are 15 entries",
         two(),
         edge_tables::replacement(fifteen, 1, 16),
-    );
+    )
 }
 
-fn show_ids() {
+fn show_ids(rt: &impl Print) -> io::Result<()> {
     let some = edge_tables::some();
     show(
+        rt,
         b"two entries whose ids differ in one bit",
         two(),
         edge_tables::entry(some, 4, 1, 3),
-    );
+    )?;
     show(
+        rt,
         b"two entries with one id",
         two(),
         edge_tables::entry(some, 4, 0, 0),
-    );
+    )?;
     show(
+        rt,
         b"two replacements with one id",
         two(),
         edge_tables::replacement(some, 2, 16),
-    );
+    )?;
     show(
+        rt,
         b"an entry and a replacement with one id",
         two(),
         edge_tables::replacement(some, 2, 3),
-    );
+    )?;
     show(
+        rt,
         b"our own id among the entries",
         two(),
         edge_tables::entry(some, 0, 0, 0),
-    );
+    )?;
     show(
+        rt,
         b"our own id among the replacements",
         two(),
         edge_tables::replacement(some, 0, 0),
-    );
-    show(b"4 failures", two(), edge_tables::entry(some, 4, 1, 4));
+    )?;
+    show(rt, b"4 failures", two(), edge_tables::entry(some, 4, 1, 4))
 }
 
-fn show_records() {
+fn show_records(rt: &impl Print) -> io::Result<()> {
     show_record(
+        rt,
         b"an entry with a record of 1 byte",
         b"a replacement with a record of 1 byte",
         1,
-    );
+    )?;
     show_record(
+        rt,
         b"an entry with a record of 300 bytes",
         b"a replacement with a record of 300 bytes",
         300,
-    );
+    )?;
     show_record(
+        rt,
         b"an entry with a record of no bytes",
         b"a replacement with a record of no bytes",
         0,
-    );
+    )?;
     show_record(
+        rt,
         b"an entry with a record of 301 bytes",
         b"a replacement with a record of 301 bytes",
         301,
-    );
+    )?;
     show_record(
+        rt,
         b"an entry with a record of the largest length",
         b"a replacement with a record of the largest length",
         usize::MAX,
-    );
+    )
 }
 
 // A table with an entry more, and one with a replacement more, whose record has so many bytes.
-fn show_record(entry: &[u8], replacement: &[u8], len: usize) {
+fn show_record(rt: &impl Print, entry: &[u8], replacement: &[u8], len: usize) -> io::Result<()> {
     let some = edge_tables::some();
     show(
+        rt,
         entry,
         two(),
         edge_tables::entry_of(some, edge_tables::sized(4, 1, len), 0),
-    );
+    )?;
     show(
+        rt,
         replacement,
         two(),
         edge_tables::replacement_of(some, edge_tables::sized(2, 17, len)),
-    );
+    )
 }
 
-fn show_both() {
+fn show_both(rt: &impl Print) -> io::Result<()> {
     let ones = [255u8; 32];
     let some = edge_tables::some();
     show(
+        rt,
         b"3001 keys and 4 failures",
         index(ones, 0, 3001, key(0, 90), key(0, 91)),
         edge_tables::entry(some, 4, 1, 4),
-    );
+    )?;
     show(
+        rt,
         b"an index of another node",
         key_index::fresh([91u8; 32], ones),
         some,
-    );
+    )
 }
 
-fn show_unused() {
+fn show_unused(rt: &impl Print) -> io::Result<()> {
     let some = edge_tables::some();
     show(
+        rt,
         b"unused: the ids of an entry and of a replacement",
         two(),
         edge_tables::unused(edge_tables::replacement(edge_tables::entry(some, 1, 0, 0), 1, 16)),
-    );
+    )?;
     show(
+        rt,
         b"unused: our own id",
         two(),
         edge_tables::unused(edge_tables::replacement(edge_tables::entry(some, 0, 0, 0), 0, 0)),
-    );
+    )?;
     show(
+        rt,
         b"unused: 255 failures",
         two(),
         edge_tables::unused(edge_tables::entry(some, 4, 1, 255)),
-    );
+    )?;
     show(
+        rt,
         b"unused: records of no bytes",
         two(),
         edge_tables::unused(edge_tables::one_more(some, 0)),
-    );
+    )?;
     show(
+        rt,
         b"unused: records of the largest length",
         two(),
         edge_tables::unused(edge_tables::one_more(some, usize::MAX)),
-    );
+    )?;
     show(
+        rt,
         b"unused: other bytes behind a record",
         two(),
         edge_tables::other_bytes(some),
-    );
+    )?;
     show(
+        rt,
         b"unused: 128 entries and 16 replacements",
         two(),
         edge_tables::counted(edge_tables::most(), 0, 0),
-    );
+    )
 }
 
 // Buffers one byte short and just long enough for one message, for the first of two and for both.
-fn show_rooms() {
-    show_room(b"no bytes of room", 0);
-    show_room(b"1 byte of room", 1);
-    show_room(b"19 bytes of room", 19);
-    show_room(b"20 bytes of room", 20);
-    show_room(b"21 bytes of room", 21);
-    show_room(b"108 bytes of room", 108);
-    show_room(b"109 bytes of room", 109);
-    show_room(b"110 bytes of room", 110);
-    show_room(b"198 bytes of room", 198);
-    show_room(b"199 bytes of room", 199);
-    show_room(b"216 bytes of room", 216);
-    show_room(b"217 bytes of room", 217);
-    show_room(b"218 bytes of room", 218);
+fn show_rooms(rt: &impl Print) -> io::Result<()> {
+    show_room(rt, b"no bytes of room", 0)?;
+    show_room(rt, b"1 byte of room", 1)?;
+    show_room(rt, b"19 bytes of room", 19)?;
+    show_room(rt, b"20 bytes of room", 20)?;
+    show_room(rt, b"21 bytes of room", 21)?;
+    show_room(rt, b"108 bytes of room", 108)?;
+    show_room(rt, b"109 bytes of room", 109)?;
+    show_room(rt, b"110 bytes of room", 110)?;
+    show_room(rt, b"198 bytes of room", 198)?;
+    show_room(rt, b"199 bytes of room", 199)?;
+    show_room(rt, b"216 bytes of room", 216)?;
+    show_room(rt, b"217 bytes of room", 217)?;
+    show_room(rt, b"218 bytes of room", 218)
 }
 
-fn show_room(name: &[u8], room: usize) {
+fn show_room(rt: &impl Print, name: &[u8], room: usize) -> io::Result<()> {
     let mut setting = calls::all_lent(two(), edge_tables::some());
     setting.room = room;
-    show_replies(name, setting);
+    show_replies(rt, name, setting)
 }
 
-fn show(name: &[u8], index: KeyIndex, table: RoutingTable) {
-    show_replies(name, calls::all_lent(index, table));
+fn show(rt: &impl Print, name: &[u8], index: KeyIndex, table: RoutingTable) -> io::Result<()> {
+    show_replies(rt, name, calls::all_lent(index, table))
 }
 
 // Prints the replies to a FindNode, and to a FindContent for a key that is held and for one that is not.
-fn show_replies(name: &[u8], setting: Setting) {
+fn show_replies(rt: &impl Print, name: &[u8], setting: Setting) -> io::Result<()> {
     let mut out = [0u8; 4096];
     let named = answer::text(&mut out, 0, name);
     let start = answer::end(&mut out, named);
@@ -339,29 +389,30 @@ fn show_replies(name: &[u8], setting: Setting) {
         &mut out,
         held,
     );
-    io::write_all(STDOUT_FILENO, words::front(&out, last));
+    rt.write_all(words::front(&out, last))
 }
 
-fn show_refusals() {
+fn show_refusals(rt: &impl Print) -> io::Result<()> {
     let long = [3u8; 1281];
     let mut many = [0u8; 262];
     many[0] = 3;
     many[1] = 4;
-    show_refusal(b"no bytes: ", b"");
-    show_refusal(b"1,281 bytes: ", &long);
-    show_refusal(b"another type: ", b"\x04");
-    show_refusal(b"an offset cut off: ", b"\x03\x04\x00\x00");
-    show_refusal(b"257 distances: ", &many);
-    show_refusal(b"a distance twice: ", b"\x03\x04\x00\x00\x00\x07\x07");
-    show_refusal(b"a key of no bytes: ", b"\x05\x04\x00\x00\x00");
+    show_refusal(rt, b"no bytes: ", b"")?;
+    show_refusal(rt, b"1,281 bytes: ", &long)?;
+    show_refusal(rt, b"another type: ", b"\x04")?;
+    show_refusal(rt, b"an offset cut off: ", b"\x03\x04\x00\x00")?;
+    show_refusal(rt, b"257 distances: ", &many)?;
+    show_refusal(rt, b"a distance twice: ", b"\x03\x04\x00\x00\x00\x07\x07")?;
+    show_refusal(rt, b"a key of no bytes: ", b"\x05\x04\x00\x00\x00")?;
     show_refusal(
+        rt,
         b"a bad selector: ",
         b"\x05\x04\x00\x00\x00\x02\x5a\x5a\x00\x00\x00\x00\x00\x00",
-    );
-    show_unusable();
+    )?;
+    show_unusable(rt)
 }
 
-fn show_refusal(name: &[u8], message: &[u8]) {
+fn show_refusal(rt: &impl Print, name: &[u8], message: &[u8]) -> io::Result<()> {
     let mut out = [0u8; 4096];
     let last = calls::line(
         name,
@@ -370,12 +421,12 @@ fn show_refusal(name: &[u8], message: &[u8]) {
         &mut out,
         0,
     );
-    io::write_all(STDOUT_FILENO, words::front(&out, last));
+    rt.write_all(words::front(&out, last))
 }
 
 // Nothing is lent.
-fn show_unusable() {
+fn show_unusable(rt: &impl Print) -> io::Result<()> {
     let mut setting = calls::all_lent(two(), edge_tables::some());
     setting.lent = false;
-    show_replies(b"nothing lent", setting);
+    show_replies(rt, b"nothing lent", setting)
 }

@@ -4,132 +4,152 @@
 mod same;
 
 use console_text::{answer, words};
-use libc::STDOUT_FILENO;
 use refusal::Refusal;
 use routing_calls::{Failure, Standing};
 use routing_table::{Contact, Found, RoutingTable};
+use std::io;
 
-fn main() {
-    show_counts();
-    show_logs();
-    show_ids();
-    show_failures();
-    show_records();
-    show_unused();
+fn main(rt: HostRuntime) -> io::Result<()> {
+    show_counts(&rt)?;
+    show_logs(&rt)?;
+    show_ids(&rt)?;
+    show_failures(&rt)?;
+    show_records(&rt)?;
+    show_unused(&rt)
 }
 
-fn show_counts() {
+fn show_counts(rt: &impl Print) -> io::Result<()> {
     let all = edge_tables::most();
-    show(b"no contacts", edge_tables::none());
-    show(b"33 entries and 5 replacements", edge_tables::some());
-    show(b"128 entries and 16 replacements", all);
-    show(b"129 entries", edge_tables::counted(all, 129, 16));
+    show(rt, b"no contacts", edge_tables::none())?;
+    show(rt, b"33 entries and 5 replacements", edge_tables::some())?;
+    show(rt, b"128 entries and 16 replacements", all)?;
+    show(rt, b"129 entries", edge_tables::counted(all, 129, 16))?;
     show(
+        rt,
         b"the largest number of entries",
         edge_tables::counted(all, usize::MAX, 16),
-    );
-    show(b"17 replacements", edge_tables::counted(all, 128, 17));
+    )?;
+    show(rt, b"17 replacements", edge_tables::counted(all, 128, 17))?;
     show(
+        rt,
         b"the largest number of replacements",
         edge_tables::counted(all, 128, usize::MAX),
-    );
+    )
 }
 
-fn show_logs() {
+fn show_logs(rt: &impl Print) -> io::Result<()> {
     let fifteen = edge_tables::entries(edge_tables::none(), 1, 15);
     let full = edge_tables::entries(edge_tables::none(), 1, 16);
-    show(b"16 entries of one log distance", full);
+    show(rt, b"16 entries of one log distance", full)?;
     show(
+        rt,
         b"17 entries of one log distance",
         edge_tables::entries(edge_tables::none(), 1, 17),
-    );
+    )?;
     show(
+        rt,
         b"4 replacements of one log distance",
         edge_tables::replacements(full, 1, 20),
-    );
+    )?;
     show(
+        rt,
         b"5 replacements of one log distance",
         edge_tables::replacements(full, 1, 21),
-    );
+    )?;
     show(
+        rt,
         b"a replacement where there are 15 entries",
         edge_tables::replacement(fifteen, 1, 16),
-    );
+    )?;
     show(
+        rt,
         b"a replacement alone",
         edge_tables::replacement(edge_tables::none(), 1, 16),
-    );
+    )
 }
 
 // Our own id among the replacements breaks another rule too: no other id has its log distance.
-fn show_ids() {
+fn show_ids(rt: &impl Print) -> io::Result<()> {
     let some = edge_tables::some();
     show(
+        rt,
         b"two entries whose ids differ in one bit",
         edge_tables::entry(some, 4, 1, 0),
-    );
+    )?;
     show(
+        rt,
         b"two entries with one id",
         edge_tables::entry(some, 4, 0, 0),
-    );
+    )?;
     show(
+        rt,
         b"two replacements with one id",
         edge_tables::replacement(some, 2, 16),
-    );
+    )?;
     show(
+        rt,
         b"an entry and a replacement with one id",
         edge_tables::replacement(some, 2, 3),
-    );
+    )?;
     show(
+        rt,
         b"our own id among the entries",
         edge_tables::entry(some, 0, 0, 0),
-    );
+    )?;
     show(
+        rt,
         b"our own id among the replacements",
         edge_tables::replacement(some, 0, 0),
-    );
+    )
 }
 
-fn show_failures() {
+fn show_failures(rt: &impl Print) -> io::Result<()> {
     let some = edge_tables::some();
-    show(b"3 failures", edge_tables::entry(some, 4, 1, 3));
-    show(b"4 failures", edge_tables::entry(some, 4, 1, 4));
-    show(b"255 failures", edge_tables::entry(some, 4, 1, 255));
+    show(rt, b"3 failures", edge_tables::entry(some, 4, 1, 3))?;
+    show(rt, b"4 failures", edge_tables::entry(some, 4, 1, 4))?;
+    show(rt, b"255 failures", edge_tables::entry(some, 4, 1, 255))?;
     show(
+        rt,
         b"4 failures of the first entry",
         edge_tables::entry(edge_tables::entry(edge_tables::none(), 4, 1, 4), 1, 0, 0),
-    );
+    )
 }
 
-fn show_records() {
+fn show_records(rt: &impl Print) -> io::Result<()> {
     let none = edge_tables::none();
     let full = edge_tables::entries(none, 1, 16);
     show_record(
+        rt,
         b"an entry with a record of 1 byte",
         b"a replacement with a record of 1 byte",
         1,
-    );
+    )?;
     show_record(
+        rt,
         b"an entry with a record of 300 bytes",
         b"a replacement with a record of 300 bytes",
         300,
-    );
+    )?;
     show_record(
+        rt,
         b"an entry with a record of no bytes",
         b"a replacement with a record of no bytes",
         0,
-    );
+    )?;
     show_record(
+        rt,
         b"an entry with a record of 301 bytes",
         b"a replacement with a record of 301 bytes",
         301,
-    );
+    )?;
     show_record(
+        rt,
         b"an entry with a record of the largest length",
         b"a replacement with a record of the largest length",
         usize::MAX,
-    );
+    )?;
     show(
+        rt,
         b"a record of no bytes in the first entry",
         edge_tables::entry(
             edge_tables::entry_of(none, edge_tables::sized(4, 1, 0), 0),
@@ -137,64 +157,74 @@ fn show_records() {
             0,
             0,
         ),
-    );
+    )?;
     show(
+        rt,
         b"a record of no bytes in the first replacement",
         edge_tables::replacement(
             edge_tables::replacement_of(full, edge_tables::sized(1, 16, 0)),
             1,
             17,
         ),
-    );
+    )
 }
 
 // A table with an entry more, and one with a replacement more, whose record has so many bytes.
-fn show_record(entry: &[u8], replacement: &[u8], len: usize) {
+fn show_record(rt: &impl Print, entry: &[u8], replacement: &[u8], len: usize) -> io::Result<()> {
     let some = edge_tables::some();
     show(
+        rt,
         entry,
         edge_tables::entry_of(some, edge_tables::sized(4, 1, len), 0),
-    );
+    )?;
     show(
+        rt,
         replacement,
         edge_tables::replacement_of(some, edge_tables::sized(2, 17, len)),
-    );
+    )
 }
 
-fn show_unused() {
+fn show_unused(rt: &impl Print) -> io::Result<()> {
     let some = edge_tables::some();
     show(
+        rt,
         b"unused: the ids of an entry and of a replacement",
         edge_tables::unused(edge_tables::replacement(edge_tables::entry(some, 1, 0, 0), 1, 16)),
-    );
+    )?;
     show(
+        rt,
         b"unused: our own id",
         edge_tables::unused(edge_tables::replacement(edge_tables::entry(some, 0, 0, 0), 0, 0)),
-    );
+    )?;
     show(
+        rt,
         b"unused: 255 failures",
         edge_tables::unused(edge_tables::entry(some, 4, 1, 255)),
-    );
+    )?;
     show(
+        rt,
         b"unused: records of no bytes",
         edge_tables::unused(edge_tables::one_more(some, 0)),
-    );
+    )?;
     show(
+        rt,
         b"unused: records of the largest length",
         edge_tables::unused(edge_tables::one_more(some, usize::MAX)),
-    );
+    )?;
     show(
+        rt,
         b"unused: a 17th entry and a 5th replacement of one log distance",
         edge_tables::unused(edge_tables::replacement(edge_tables::entry(some, 1, 20, 0), 1, 21)),
-    );
+    )?;
     show(
+        rt,
         b"unused: 128 entries and 16 replacements",
         edge_tables::counted(edge_tables::most(), 0, 0),
-    );
+    )
 }
 
 // Prints what the calls answer on the table.
-fn show(name: &[u8], table: RoutingTable) {
+fn show(rt: &impl Print, name: &[u8], table: RoutingTable) -> io::Result<()> {
     let mut out = [0u8; 1024];
     let named = answer::text(&mut out, 0, name);
     let start = answer::end(&mut out, named);
@@ -231,7 +261,7 @@ fn show(name: &[u8], table: RoutingTable) {
     let first = failed_line(b"the first", table, 1, 0, &mut out, sized);
     let again = failed_line(b"our own id", table, 0, 0, &mut out, first);
     let last = failed_line(b"a stranger", table, 200, 200, &mut out, again);
-    io::write_all(STDOUT_FILENO, words::front(&out, last));
+    rt.write_all(words::front(&out, last))
 }
 
 // Sightings whose record does not fit.

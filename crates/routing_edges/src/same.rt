@@ -7,7 +7,7 @@ pub fn is_same(a: RoutingTable, b: RoutingTable) -> bool {
     if a.count != b.count || a.waiting != b.waiting {
         return false;
     }
-    check::same(&own, &other) && same_entries(a, b) && same_replacements(a, b)
+    octets::same(&own, &other) && same_entries(a, b) && same_replacements(a, b)
 }
 
 fn same_entries(a: RoutingTable, b: RoutingTable) -> bool {
@@ -40,7 +40,7 @@ fn same_contact(a: Contact, b: Contact) -> bool {
 fn same_record(a: Contact, b: Contact) -> bool {
     let a_enr = a.enr;
     let b_enr = b.enr;
-    a.len == b.len && check::same(&a_enr, &b_enr)
+    a.len == b.len && octets::same(&a_enr, &b_enr)
 }
 
 fn same_rest(a: Contact, b: Contact) -> bool {
@@ -50,10 +50,10 @@ fn same_rest(a: Contact, b: Contact) -> bool {
     let b_radius = b.radius;
     let a_address = a.address;
     let b_address = b.address;
-    if a.port != b.port || !check::same(&a_address, &b_address) {
+    if a.port != b.port || !octets::same(&a_address, &b_address) {
         return false;
     }
-    check::same(&a_id, &b_id) && check::same(&a_radius, &b_radius)
+    octets::same(&a_id, &b_id) && octets::same(&a_radius, &b_radius)
 }
 
 // Whether a contact has nothing but zeros.

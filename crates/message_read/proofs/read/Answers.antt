@@ -1,9 +1,10 @@
 -- `message_read::read` meets its contract: the three tests of the whole message, and then the function of its type. Assumes nothing.
+use native.Mathlib.Omega.{arith}
 use mathlib.Core.Path.{refl}
 use borrow.Author.Rules.{rules}
 use Rattle.message_read.specs.Shapes.{is_ping, is_pong, is_find_content, is_offer, is_accept}
 use Rattle.message_read.proofs.Answers.{read_as_lem, refused_to}
-use Rattle.message_read.proofs.Containers.{decode_empty, decode_long, none_of_nine, decode_type, decode_body}
+use Rattle.message_read.proofs.Containers.{decode_empty, decode_long, decode_type, decode_body}
 use Rattle.message_read.proofs.read.Goals as goal
 
 pub returns-then-message-eq0 : goal.returns-then-message-eq0
@@ -56,9 +57,6 @@ returns-in-9 c = read_as_lem (decode_body c.args.message.now 9 (search rules) (s
 
 pub returns-in_default : goal.returns-in_default
 returns-in_default c =
-    let r = c.in_default.in_default-own.rest in
     refused_to c.refused-in_default.ensures
-    (decode_type c.args.message.now (search rules) (search rules)
-    (none_of_nine _ r.0.0.0.0.0.0.0.0.1 r.0.0.0.0.0.0.0.1 r.0.0.0.0.0.0.1 r.0.0.0.0.0.1 r.0.0.0.0.1
-    r.0.0.0.1 r.0.0.1 r.0.1 r.1))
+    (decode_type c.args.message.now (search rules) (search rules) (λ low high. omega arith))
     (search rules)

@@ -1,13 +1,12 @@
 -- What decoding comes to, by the tests of the whole message: no bytes, too many, another type, and the layout of its type.
 -- Assumes nothing.
-use Prim.Native.Nat.{ℕ, suc, ◌<◌, ◌≤◌}
+use Prim.Native.Nat.{ℕ, ◌<◌, ◌≤◌}
 use native.Mathlib.Omega.{arith}
-use native.Mathlib.Nat.{suc-ne-zero, not-le_of_lt}
-use mathlib.Core.Path.{◌≡◌, refl, sym, ap, ◌∙◌}
+use native.Mathlib.Nat.{suc-ne-zero}
+use mathlib.Core.Path.{◌≡◌, refl, ap, ◌∙◌}
 use mathlib.Core.Bool.{Bool, true, false, cond, ◌&&◌}
 use mathlib.Core.List.{List, [], ◌∷◌}
 use lib.Dec.{leb}
-use lib.Arith.{lt_of_le-ne}
 use lib.ListN.{length, get_or, drop}
 use borrow.Author.Tests.{lt-ltb, le-ltb, leb-true}
 use Rattle.refusal.specs.Outcome.{refused}
@@ -24,18 +23,6 @@ pub decode_long : (s : List ℕ) → 1280 < length s → decode s ≡ refused 2
 unfolding decode
 decode_long [] h = absurd (omega arith)
 decode_long (x ∷ s) h = rw (lt-ltb 1280 (length (x ∷ s)) h)
-
--- a number that is none of 1 to 9 is not from 1 to 9: each bound that it does not meet moves up by one
-pub none_of_nine : (k : ℕ) → (k ≡ 1 → ⊥) → (k ≡ 2 → ⊥) → (k ≡ 3 → ⊥) → (k ≡ 4 → ⊥) → (k ≡ 5 → ⊥) → (k ≡ 6 → ⊥) → (k ≡ 7 → ⊥) → (k ≡ 8 → ⊥)
-    → (k ≡ 9 → ⊥) → 1 ≤ k → k ≤ 9 → ⊥
-none_of_nine k n1 n2 n3 n4 n5 n6 n7 n8 n9 l h =
-    over (up 9 (up 8 (up 7 (up 6 (up 5 (up 4 (up 3 (up 2 (up 1 l n1) n2) n3) n4) n5) n6) n7) n8) n9)
-  where
-    up : (n : ℕ) → n ≤ k → (k ≡ n → ⊥) → suc n ≤ k
-    up n l t = lt_of_le-ne l (λ e. t (sym e))
-
-    over : 10 ≤ k → ⊥
-    over l = not-le_of_lt l h
 
 -- 3 for a type that is not 1 to 9
 pub decode_type : (s : List ℕ) → (length s ≡ 0 → ⊥) → length s ≤ 1280 → (1 ≤ get_or s 0 0 → get_or s 0 0 ≤ 9 → ⊥) → decode s ≡ refused 3

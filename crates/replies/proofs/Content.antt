@@ -1,6 +1,6 @@
 -- The reply to a FindContent. For a key that is held: the content or the connection id. For one that is not: as many records as fit, of
 -- entries that are nearer to its id than we are. Assumes nothing.
-use Prim.Native.Nat.{ℕ, ◌≤◌, ◌<◌}
+use Prim.Native.Nat.{ℕ, ◌<◌}
 use mathlib.Core.Path.{◌≡◌, refl, sym, subst, ◌∙◌}
 use mathlib.Core.Bool.{Bool, true, false, cond, ◌&&◌}
 use mathlib.Core.List.{List, [], ◌∷◌, map}

@@ -30,7 +30,7 @@ use Rattle.routing_calls.specs.Seen as sees
 use Rattle.routing_calls.specs.Seen.{seen_of, meet_of, newcomer_of, wait_of, latest_for}
 use Rattle.routing_calls.specs.Failed as fails
 use Rattle.routing_calls.specs.Failed.{failed_of, miss_of, fail_at_of, give_way_of, failures_at, promoted}
-use Rattle.routing_runs.specs.Step.{Call, seen, failed, Answer, refused, after_seen, after_failed, step}
+use Rattle.routing_runs.specs.Step.{Call, seen, failed, Answer, after_seen, after_failed, step}
 use Rattle.routing_runs.specs.Leaving.{NoneAt, MostRecent, LongestUnseen}
 use Rattle.routing_runs.specs.Refusing.{New, bad_record, ours, ours_failed, entries_used, replacements_used, no_entry as strange}
 use Rattle.routing_runs.proofs.Done.{EntryAt, ReplacementAt, failing, Done, refusing, renewed, moved, added, waiting, making_way, counting, flagging, exchanging}

@@ -51,7 +51,8 @@ module _ (v : View) (own id : List ℕ) (ids : List (List ℕ)) (logs : List ℕ
 
   parts : logs ≡ log_distance_of v.own v.own ∷ (entry_logs v ++ replacement_logs v)
   parts =
-      l ∙ rw o (ap (λ (r : List ℕ). log_distance_of v.own v.own ∷ r) (map-append (log_distance_of v.own) (entry_ids v) (replacement_ids v)))
+      l ∙ ap (λ (r : List ℕ). logs_of r (ids_of v)) o
+      ∙ ap (λ (r : List ℕ). log_distance_of v.own v.own ∷ r) (map-append (log_distance_of v.own) (entry_ids v) (replacement_ids v))
 
   number : length (entry_logs v) ≡ length v.entries
   number = length-map (entry_ids v) (log_distance_of v.own) ∙ length-map v.entries entry_id

@@ -5,4 +5,4 @@ use Rattle.accumulator.proofs.parent.Goals as goal
 
 pub returns : goal.returns
 returns c =
-    parent_made _ _ c.put.new.1.0 _ _ c.hash.ensures (search rules) (search rules) (search rules) (search rules)
+    parent_made _ _ c.put.new.out _ _ c.hash.ensures (search rules) (search rules) (search rules) (search rules)

@@ -4,42 +4,36 @@ use native.Mathlib.Omega.{arith}
 use mathlib.Core.Path.{◌≡◌, sym, ◌∙◌}
 use mathlib.Core.Bool.{Bool, true, false}
 use lib.ListN.{length}
-use borrow.Author.Tests.{not-true, not-false}
 use Rattle.refusal.specs.Outcome.{given}
 use Rattle.accumulator.specs.Verdict.{epoch_of, lengths_good, canonical_of}
 use Rattle.canonical.proofs.Answers.{right_lengths, wrong_length, no_epoch, computed_is, wanted_is, judged}
 use borrow.Author.Rules.{rules}
 use Rattle.canonical.proofs.canonical.Goals as goal
-use Rattle.canonical.proofs.canonical.Goals.{After-lengths_good, After-same, Else-epochs-epoch, Else-not-lengths_good}
+use Rattle.canonical.proofs.canonical.Goals.{After-same, Else-not-lengths_good}
 
--- what the test of the lengths says
-tested : (c : After-lengths_good) → lengths_good c.args.hash.now c.args.proof.now c.args.roots.now ≡ c.lengths_good.result
-tested c = sym c.lengths_good.ensures
-
+-- the lengths are right
 good : (c : Else-not-lengths_good) → lengths_good c.args.hash.now c.args.proof.now c.args.roots.now ≡ true
-good c = tested c.before ∙ not-false _ c.if-not-lengths_good.false-raw
-
--- the roots reach up to the epoch
-lent : (c : Else-epochs-epoch) → epoch_of c.args.number < length c.args.roots.now / 32
-lent c = omega (arith, c.if-epochs-epoch.false)
+good c = sym c.lengths_good.ensures ∙ c.if-not-lengths_good.false
 
 -- the verdict, by whether the roots are the same
 verdict : (c : After-same) (answer : Bool) → answer ≡ c.same.result
     → let a = c.args in
     given answer ≡ canonical_of a.number a.hash.now a.proof.now a.roots.now
 verdict c answer is =
-    let g = good c.before.before.before.before.before.before.before in
-    let l = lent c.before.before.before.before.before.before in
+    let a = c.args in
+    let g : lengths_good a.hash.now a.proof.now a.roots.now ≡ true = sym c.lengths_good.ensures ∙ c.if-not-lengths_good.false in
+    let l : epoch_of a.number < length a.roots.now / 32 = omega (arith, c.if-epochs-epoch.false) in
     judged _ _ _ _ g l _ _ _ c.same.ensures
     (computed_is _ _ _ _ g l _ _ _ c.root_along-computed.ensures (omega arith) c.part32-leaf.ensures)
     (wanted_is _ _ _ _ g l _ _ c.part32-wanted.ensures (omega arith))
     answer is
 
 pub returns-then-not-lengths_good : goal.returns-then-not-lengths_good
-returns-then-not-lengths_good c = wrong_length _ _ _ _ (tested (goal.at.returns-then-not-lengths_good c).After-lengths_good ∙ not-true _ c.if-not-lengths_good.true-raw) _ (search rules)
+returns-then-not-lengths_good c = wrong_length _ _ _ _ (sym c.lengths_good.ensures ∙ c.if-not-lengths_good.true) _ (search rules)
 
 pub returns-then-epochs-epoch : goal.returns-then-epochs-epoch
-returns-then-epochs-epoch c = no_epoch _ _ _ _ (good (goal.at.returns-then-epochs-epoch c).Else-not-lengths_good) (omega (arith, c.if-epochs-epoch.true)) _ (search rules)
+returns-then-epochs-epoch c =
+    no_epoch _ _ _ _ (good (goal.at.returns-then-epochs-epoch c).Else-not-lengths_good) (omega (arith, c.if-epochs-epoch.true)) _ (search rules)
 
 pub root_along-computed-requires : goal.root_along-computed-requires
 root_along-computed-requires c = (right_lengths 0 _ _ _ (good (goal.at.root_along-computed-requires c).Else-not-lengths_good)).1

@@ -28,7 +28,7 @@ pub returns-then-out-lt-PROOF : goal.returns-then-out-lt-PROOF
 returns-then-out-lt-PROOF c = proof_short _ _ (good (goal.at.returns-then-out-lt-PROOF c).Else-not-are_records) (there (goal.at.returns-then-out-lt-PROOF c).Else-count-position) _ (search rules) _ (search rules)
 
 pub siblings-siblings-requires : goal.siblings-siblings-requires
-siblings-siblings-requires c = (good (goal.at.siblings-siblings-requires c).Else-not-are_records, there (goal.at.siblings-siblings-requires c).Else-count-position)
+siblings-siblings-requires c = record { records_value = good (goal.at.siblings-siblings-requires c).Else-not-are_records; position_bound = there (goal.at.siblings-siblings-requires c).Else-count-position }
 
 pub returns : goal.returns
 returns c =

@@ -20,7 +20,7 @@ pub returns-then-out-lt32 : goal.returns-then-out-lt32
 returns-then-out-lt32 c = root_short _ (good (goal.at.returns-then-out-lt32 c).Else-not-are_records) _ (search rules) _ (search rules)
 
 pub node-tree-requires : goal.node-tree-requires
-node-tree-requires c = (good (goal.at.node-tree-requires c).Else-not-are_records, search rules)
+node-tree-requires c = record { records_value = good (goal.at.node-tree-requires c).Else-not-are_records; height_bound = search rules }
 
 pub count_chunk-count-requires : goal.count_chunk-count-requires
 count_chunk-count-requires c = good (goal.at.count_chunk-count-requires c).Else-not-are_records

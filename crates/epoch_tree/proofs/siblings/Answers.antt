@@ -15,7 +15,7 @@ loop-height-init c =
     (search rules, omega arith, search rules, written_first _ _ c.requires.position_bound _ 0 c.part32-difficulty.result c.put.ensures.out_after refl (difficulty_read _ _ c.requires.position_bound _ _ c.part32-difficulty.ensures (search rules)))
 
 pub node-sibling-requires : goal.node-sibling-requires
-node-sibling-requires c = (c.requires.records_value, search rules)
+node-sibling-requires c = record { records_value = c.requires.records_value; height_bound = search rules }
 
 pub loop-height-preserved : goal.loop-height-preserved
 loop-height-preserved c = (

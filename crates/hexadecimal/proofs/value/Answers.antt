@@ -14,4 +14,4 @@ returns-then-c-le102 c = sym (value_of_letter _ (search rules) (search rules))
 
 pub returns-else-c-ge97 : goal.returns-else-c-ge97
 returns-else-c-ge97 c =
-    sym (value_of_other _ (⊎_elim inl (λ w. inr w.1) c.else-c-ge48.either) (⊎_elim inl (λ w. inr w.1) c.else-c-ge97.either))
+    sym (value_of_other _ (⊎_elim (λ w. inr w.1) inl c.else-c-ge48.either) (⊎_elim (λ w. inr w.1) inl c.else-c-ge97.either))

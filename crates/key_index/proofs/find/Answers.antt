@@ -84,10 +84,10 @@ returns-then-whole-i c =
     sym (c.loop-i.invariant.1 ∙ short _ _ _ c.loop-i.i (nine (goal.at.returns-then-whole-i c).Start) (search rules))
 
 pub returns-then-same : goal.returns-then-same
-returns-then-same c = sym (c.loop-i.inv.1 ∙ here (turn (goal.at.returns-then-same c).After-same) c.if-same.true)
+returns-then-same c = sym (c.loop-i.invariant.1 ∙ here (turn (goal.at.returns-then-same c).After-same) c.if-same.true)
 
 pub loop-i-preserved : goal.loop-i-preserved
-loop-i-preserved c = (search rules, c.loop-i.inv.1 ∙ later (turn (goal.at.loop-i-preserved c).After-same) c.if-same.false)
+loop-i-preserved c = (search rules, c.loop-i.invariant.1 ∙ later (turn (goal.at.loop-i-preserved c).After-same) c.if-same.false)
 
 pub returns : goal.returns
 returns c =

@@ -2,7 +2,6 @@
 -- key is held. Assumes nothing.
 use mathlib.Core.Path.{◌≡◌, sym, ap, ◌∙◌}
 use mathlib.Core.Bool.{true}
-use borrow.Author.Tests.{not-true, not-false}
 use Rattle.refusal.specs.Outcome.{given}
 use Rattle.refusal.proofs.Outcomes.{was_given, was_refused}
 use Rattle.key_index.specs.View.{key_limit, view}
@@ -19,20 +18,20 @@ tested : (c : After-is_good) → good key_limit (view c.args.index) ≡ c.is_goo
 tested c = sym c.is_good.ensures
 
 pub returns-then-not-is_good : goal.returns-then-not-is_good
-returns-then-not-is_good c = holds_bad key_limit _ _ _ (tested (goal.at.returns-then-not-is_good c).After-is_good ∙ not-true _ c.if-not-is_good.true-raw) (search rules)
+returns-then-not-is_good c = holds_bad key_limit _ _ _ (tested (goal.at.returns-then-not-is_good c).After-is_good ∙ c.if-not-is_good.true) (search rules)
 
 pub returns-in-Refused : goal.returns-in-Refused
 returns-in-Refused c =
     let k = was_refused _ _ c.key-read.ensures.key_value c.in-Refused.is in
-    holds_refused key_limit _ _ (tested (goal.at.returns-in-Refused c).After-is_good ∙ not-false _ c.if-not-is_good.false-raw) k
+    holds_refused key_limit _ _ (tested (goal.at.returns-in-Refused c).After-is_good ∙ c.if-not-is_good.false) k
 
-good_here : (c : After-find-place) → good key_limit (view (start c.before.before.before.before.before.before.before).args.index) ≡ true
-good_here c = tested c.before.before.before.before.before.before.before ∙ not-false _ c.if-not-is_good.false-raw
+good_here : (c : After-find-place) → good key_limit (view c.args.index) ≡ true
+good_here c = sym c.is_good.ensures ∙ c.if-not-is_good.false
 
 -- the key is looked for among the keys in use
 among : (c : After-find-place)
-    → place_of c.key-read.result.key (view (start c.before.before.before.before.before.before.before).args.index).keys ≡ c.find-place.result
-among c = place_among _ _ _ (start c.before.before.before.before.before.before.before).args.index.count c.find-place.ensures (search rules)
+    → place_of c.key-read.result.key (view c.args.index).keys ≡ c.find-place.result
+among c = place_among _ _ _ c.args.index.count c.find-place.ensures (search rules)
 
 pub returns-in-At : goal.returns-in-At
 returns-in-At c =

@@ -35,9 +35,9 @@ handed_back index bytes says e = ap (given_by index) (sym e)
 abbrev place : In-At → ℕ
 place c = c.in-At.place
 
-inside : (c : In-At) → (place c < (start c.before).args.index.count) × ((start c.before).args.index.count ≤ key_limit)
+inside : (c : In-At) → (place c < c.args.index.count) × (c.args.index.count ≤ key_limit)
 inside c =
-    let i = (start c.before).args.index in
+    let i = c.args.index in
     let n = chunks_length i.count i.keys in
     let s = c.seek-sought.ensures.inside _ c.in-At.is in
     (omega (arith, s.0), omega (arith, s.1))
@@ -47,12 +47,12 @@ size c = search rules
 
 pub without_at-requires : goal.without_at-requires
 without_at-requires c =
-    let i = inside (goal.at.without_at-requires c).In-At-2 in
-    ((omega (arith, i.0), i.1), (size (start (goal.at.without_at-requires c).After-seek-sought), refl))
+    let i = inside (goal.at.without_at-requires c).In-At in
+    record { place_lt_count = (omega (arith, i.0), i.1); len = (size (goal.at.without_at-requires c).Start, refl) }
 
 pub overflow_sub-fewer : goal.overflow_sub-fewer
 overflow_sub-fewer c =
-    let i = inside (goal.at.overflow_sub-fewer c).In-At-2 in
+    let i = inside (goal.at.overflow_sub-fewer c).In-At in
     omega (arith, i.0)
 
 pub returns-in-Refused : goal.returns-in-Refused
@@ -62,5 +62,5 @@ returns-in-Refused c =
 
 pub returns-in-At : goal.returns-in-At
 returns-in-At c =
-    taken (start (goal.at.returns-in-At c).After-seek-sought).args.index _ _ (place (goal.at.returns-in-At c).In-At-2) _ _ _ (c.seek-sought.ensures.finds _ c.in-At.is) c.without_at.ensures
+    taken c.args.index _ _ (place (goal.at.returns-in-At c).In-At) _ _ _ (c.seek-sought.ensures.finds _ c.in-At.is) c.without_at.ensures
     (omega arith) (omega arith) (omega arith)

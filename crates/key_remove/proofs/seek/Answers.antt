@@ -3,7 +3,6 @@
 use Prim.Native.Nat.{ℕ}
 use mathlib.Core.Path.{◌≡◌, sym, ◌∙◌}
 use mathlib.Core.Bool.{true}
-use borrow.Author.Tests.{not-true, not-false}
 use Rattle.refusal.specs.Says.{only}
 use Rattle.refusal.specs.Outcome.{given}
 use Rattle.refusal.proofs.Due.{due}
@@ -23,25 +22,26 @@ abbrev seen : Start → View
 seen c = view_of c.args.node c.args.cap c.args.keys.now c.args.count
 
 -- what the test of the rules says
-tested : (c : After-is_good) → good key_limit (seen c.before.before.before) ≡ c.is_good.result
+tested : (c : After-is_good) → good key_limit (view_of c.args.node c.args.cap c.args.keys.now c.args.count) ≡ c.is_good.result
 tested c = sym c.is_good.ensures
 
 -- the index is good, where it passed
-kept : (c : Else-not-is_good) → good key_limit (seen c.before.before.before.before) ≡ true
-kept c = tested c.before ∙ not-false _ c.if-not-is_good.false-raw
+kept : (c : Else-not-is_good) → good key_limit (view_of c.args.node c.args.cap c.args.keys.now c.args.count) ≡ true
+kept c = sym c.is_good.ensures ∙ c.if-not-is_good.false
 
 -- the bytes are a key
-read : (c : After-find-found) → given c.key-read.result.key ≡ key_of (start c.before.before.before.before.before).args.bytes.now
+read : (c : After-find-found) → given c.key-read.result.key ≡ key_of c.args.bytes.now
 read c = was_given _ _ c.key-read.ensures.key_value c.in_default.is
 
 -- it is looked for among the keys in use
-among : (c : After-find-found) → place_of c.key-read.result.key (seen (start c.before.before.before.before.before)).keys ≡ c.find-found.result
-among c = place_among _ _ _ (start c.before.before.before.before.before).args.count c.find-found.ensures (search rules)
+among : (c : After-find-found)
+    → place_of c.key-read.result.key (view_of c.args.node c.args.cap c.args.keys.now c.args.count).keys ≡ c.find-found.result
+among c = place_among _ _ _ c.args.count c.find-found.ensures (search rules)
 
 pub returns-then-not-is_good : goal.returns-then-not-is_good
 returns-then-not-is_good c =
     refused_seeks key_limit (seen (goal.at.returns-then-not-is_good c).Start) c.args.bytes.now _
-    (due (λ (n : ℕ). refused (only n)) _ 0 (sym (remove_bad key_limit (seen (goal.at.returns-then-not-is_good c).Start) c.args.bytes.now (tested (goal.at.returns-then-not-is_good c).After-is_good ∙ not-true _ c.if-not-is_good.true-raw))) (search rules))
+    (due (λ (n : ℕ). refused (only n)) _ 0 (sym (remove_bad key_limit (seen (goal.at.returns-then-not-is_good c).Start) c.args.bytes.now (tested (goal.at.returns-then-not-is_good c).After-is_good ∙ c.if-not-is_good.true))) (search rules))
 
 pub returns-in-Refused : goal.returns-in-Refused
 returns-in-Refused c =
@@ -50,12 +50,12 @@ returns-in-Refused c =
 
 pub returns-in-At : goal.returns-in-At
 returns-in-At c =
-    let s = start (goal.at.returns-in-At c).After-is_good in
+    let s = (goal.at.returns-in-At c).Start in
     place_seeks key_limit (seen s) s.args.bytes.now _ _ (kept (goal.at.returns-in-At c).Else-not-is_good) (read (goal.at.returns-in-At c).After-find-found) (among (goal.at.returns-in-At c).After-find-found ∙ c.in-At.is) (search rules)
 
 pub returns-in-Nothing : goal.returns-in-Nothing
 returns-in-Nothing c =
-    let s = start (goal.at.returns-in-Nothing c).After-is_good in
+    let s = (goal.at.returns-in-Nothing c).Start in
     refused_seeks key_limit (seen s) s.args.bytes.now _
     (due (λ (n : ℕ). refused (only n)) _ 12
     (sym (remove_absent key_limit (seen s) s.args.bytes.now (kept (goal.at.returns-in-Nothing c).Else-not-is_good) (read (goal.at.returns-in-Nothing c).After-find-found) (nothing_held _ _ (among (goal.at.returns-in-Nothing c).After-find-found ∙ c.in-Nothing.is))))

@@ -8,4 +8,4 @@ pub returns : goal.returns
 returns c =
     let a = c.args in
     let pre = c.requires in
-    moved_keys a.old.now a.place a.count _ _ pre.0.0 (omega (arith, pre.0.1, pre.1.0)) pre.1.1 (search rules)
+    moved_keys a.old.now a.place a.count _ _ pre.place_lt_count.0 (omega (arith, pre.place_lt_count.1, pre.len.0)) pre.len.1 (search rules)

@@ -10,7 +10,6 @@ use borrow.Author.Tests.{leb-true, leb-false, le-leb, lt-leb}
 use Rattle.refusal.specs.Says.{only}
 use Rattle.refusal.proofs.Due.{due}
 use Rattle.octets.specs.Bytes.{be}
-use Rattle.distance.proofs.Tested.{over_true, over_false}
 use Rattle.key_index.specs.View.{View, key_limit, view_of}
 use Rattle.key_index.specs.Good.{away_from, radius_of}
 use Rattle.key_index.specs.Calls.{is_held}
@@ -23,39 +22,31 @@ use Rattle.key_store.proofs.Answers.{admit_held, admit_far, admit_put}
 use Rattle.key_store.proofs.Verdicts.{refused_says, put_says}
 use borrow.Author.Rules.{rules}
 use Rattle.key_store.proofs.admit.Goals as goal
-use Rattle.key_store.proofs.admit.Goals.{After-at_most, After-away-far, Else-not-at_most, Start, Then-not-at_most}
+use Rattle.key_store.proofs.admit.Goals.{After-away-far, Else-not-at_most, Start, Then-not-at_most}
 
 abbrev seen : Start → View
 seen c = view_of c.args.node c.args.cap c.args.keys.now c.args.count
 
 -- the key is not held, where no place was found
-out : (c : After-away-far) → is_held c.args.key (seen c.before.before.before.before) ≡ false
+out : (c : After-away-far) → is_held c.args.key (view_of c.args.node c.args.cap c.args.keys.now c.args.count) ≡ false
 out c = nothing_held _ _ (sym c.find-held.ensures ∙ c.in_default.is)
 
 -- the two sides of the test of the distance
-module _ (c : After-at_most) where
-  abbrev far : ℕ
-  far = away_from (asked c.before.before).args.node (asked c.before.before).args.key
-  abbrev reach : ℕ
-  reach = be (radius_of key_limit (seen (asked c.before.before)))
-  is_far : be c.away-far.result ≡ far
-  is_far = ap be c.away-far.ensures
-  is_reach : be c.reach.result ≡ reach
-  is_reach = ap be c.reach.ensures
-
-beyond : (c : Then-not-at_most) → leb (far c.before) (reach c.before) ≡ false
+beyond : (c : Then-not-at_most)
+    → leb (away_from c.args.node c.args.key) (be (radius_of key_limit (view_of c.args.node c.args.cap c.args.keys.now c.args.count))) ≡ false
 beyond c =
-    let t = rw c.at_most.ensures at c.if-not-at_most.true-raw in
-    let d = is_far c.before in
-    let r = is_reach c.before in
-    lt-leb (far c.before) (reach c.before) (omega (arith, leb-true, over_true))
+    let t = rw c.at_most.ensures at c.if-not-at_most.true in
+    let d = ap be c.away-far.ensures in
+    let r = ap be c.reach.ensures in
+    lt-leb _ _ (omega (arith, leb-false))
 
-within : (c : Else-not-at_most) → leb (far c.before) (reach c.before) ≡ true
+within : (c : Else-not-at_most)
+    → leb (away_from c.args.node c.args.key) (be (radius_of key_limit (view_of c.args.node c.args.cap c.args.keys.now c.args.count))) ≡ true
 within c =
-    let t = rw c.at_most.ensures at c.if-not-at_most.false-raw in
-    let d = is_far c.before in
-    let r = is_reach c.before in
-    le-leb (far c.before) (reach c.before) (omega (arith, leb-false, over_false))
+    let t = rw c.at_most.ensures at c.if-not-at_most.false in
+    let d = ap be c.away-far.ensures in
+    let r = ap be c.reach.ensures in
+    le-leb _ _ (omega (arith, leb-true))
 
 pub returns-in-At : goal.returns-in-At
 returns-in-At c =
@@ -72,10 +63,9 @@ returns-then-not-at_most c =
 
 pub nearer_keys-place-requires : goal.nearer_keys-place-requires
 nearer_keys-place-requires c =
-    let s = asked (goal.at.nearer_keys-place-requires c).After-away-far in
-    let f = good_facts key_limit (seen s) s.pre.1 in
-    let n = chunks_length s.args.count s.args.keys.now in
-    omega (arith, s.pre.0, f.few)
+    let f = good_facts key_limit _ c.requires.count_value in
+    let n = chunks_length c.args.count c.args.keys.now in
+    omega (arith, c.requires.keys_len, f.few)
 
 pub returns : goal.returns
 returns c =
@@ -85,6 +75,6 @@ returns c =
       kept = c.requires.count_value;
       new = out (goal.at.returns c).After-away-far;
       near = within (goal.at.returns c).Else-not-at_most;
-      (goal.at.returns c).After-away-far = c.nearer_keys-place.ensures ∙ ap (λ (d : List ℕ). nearer a.node (be d) (seen (goal.at.returns c).Start).keys) c.away-far.ensures;
+      at = c.nearer_keys-place.ensures ∙ ap (λ (d : List ℕ). nearer a.node (be d) (seen (goal.at.returns c).Start).keys) c.away-far.ensures;
     })
     (due (put_of key_limit (seen (goal.at.returns c).Start) a.key) _ a.payload (admit_put key_limit (seen (goal.at.returns c).Start) a.key a.payload (out (goal.at.returns c).After-away-far) (within (goal.at.returns c).Else-not-at_most)) (search rules))

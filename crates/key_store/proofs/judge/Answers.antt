@@ -2,7 +2,6 @@
 use Prim.Native.Nat.{ℕ}
 use mathlib.Core.Path.{◌≡◌, sym, ◌∙◌}
 use mathlib.Core.Bool.{true}
-use borrow.Author.Tests.{not-true, not-false}
 use Rattle.refusal.specs.Says.{only}
 use Rattle.refusal.specs.Outcome.{given}
 use Rattle.refusal.proofs.Due.{due}
@@ -22,12 +21,12 @@ abbrev seen : Start → View
 seen c = view_of c.args.node c.args.cap c.args.keys.now c.args.count
 
 -- what the test of the rules says
-tested : (c : After-is_good) → good key_limit (seen c.before.before.before.before) ≡ c.is_good.result
+tested : (c : After-is_good) → good key_limit (view_of c.args.node c.args.cap c.args.keys.now c.args.count) ≡ c.is_good.result
 tested c = sym c.is_good.ensures
 
 -- the index is good, where it passed
-kept : (c : Else-not-is_good) → good key_limit (seen c.before.before.before.before.before) ≡ true
-kept c = tested c.before ∙ not-false _ c.if-not-is_good.false-raw
+kept : (c : Else-not-is_good) → good key_limit (view_of c.args.node c.args.cap c.args.keys.now c.args.count) ≡ true
+kept c = sym c.is_good.ensures ∙ c.if-not-is_good.false
 
 -- the bytes are a key, where they were accepted
 read : (c : In_default) → given c.key-read.result.key ≡ key_of c.args.bytes.now
@@ -37,7 +36,7 @@ pub returns-then-not-is_good : goal.returns-then-not-is_good
 returns-then-not-is_good c =
     refused_says key_limit (seen (goal.at.returns-then-not-is_good c).Start) _ _ _ _ c.refused.ensures
     (due (λ (n : ℕ). refused (only n)) _ 0
-    (store_bad key_limit (seen (goal.at.returns-then-not-is_good c).Start) c.args.bytes.now c.args.content.now c.args.newest (tested (goal.at.returns-then-not-is_good c).After-is_good ∙ not-true _ c.if-not-is_good.true-raw))
+    (store_bad key_limit (seen (goal.at.returns-then-not-is_good c).Start) c.args.bytes.now c.args.content.now c.args.newest (tested (goal.at.returns-then-not-is_good c).After-is_good ∙ c.if-not-is_good.true))
     (search rules))
 
 pub returns-in-Refused : goal.returns-in-Refused
@@ -47,7 +46,7 @@ returns-in-Refused c =
 
 pub admit-requires : goal.admit-requires
 admit-requires c =
-    (c.requires, kept (goal.at.admit-requires c).Else-not-is_good)
+    record { keys_len = c.requires; count_value = kept (goal.at.admit-requires c).Else-not-is_good }
 
 pub returns-in-Accepted : goal.returns-in-Accepted
 returns-in-Accepted c =

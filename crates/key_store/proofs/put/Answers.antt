@@ -46,7 +46,7 @@ pub with_key-requires : goal.with_key-requires
 with_key-requires c =
     let a = c.args in
     let h = place_most key_limit a.index a.key (of_bytes (goal.at.with_key-requires c).Start) (nine (goal.at.with_key-requires c).Start) a.place c.requires in
-    ((omega arith, omega (arith, c.if-index-lt-LIMIT.true)), (size (goal.at.with_key-requires c).Start, refl))
+    record { from_le_to = (omega arith, omega (arith, c.if-index-lt-LIMIT.true)); len = (size (goal.at.with_key-requires c).Start, refl) }
 
 pub returns-then-index-lt-LIMIT : goal.returns-then-index-lt-LIMIT
 returns-then-index-lt-LIMIT c =
@@ -59,7 +59,7 @@ pub with_key-requires-2 : goal.with_key-requires-2
 with_key-requires-2 c =
     let a = c.args in
     let h = full_place (key_limit - 1) a.index a.key (of_bytes (goal.at.with_key-requires-2 c).Start) (nine (goal.at.with_key-requires-2 c).Start) a.place c.requires (omega (arith, c.if-index-lt-LIMIT.false)) (omega (arith, size (goal.at.with_key-requires-2 c).Start)) in
-    ((omega arith, omega arith), (size (goal.at.with_key-requires-2 c).Start, refl))
+    record { from_le_to = (omega arith, omega arith); len = (size (goal.at.with_key-requires-2 c).Start, refl) }
 
 pub returns : goal.returns
 returns c =

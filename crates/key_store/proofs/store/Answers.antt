@@ -19,6 +19,6 @@ returns-in-Refused c =
 
 pub returns-in-At : goal.returns-in-At
 returns-in-At c =
-    let clauses = answer_as c.args.index c.put.result (put_of key_limit (view c.args.index) c.judge-judged.result.key _) (due_of (goal.at.returns-in-At c).Start) c.put.ensures
+    let clauses = answer_as c.args.index c.put.result (put_of key_limit (view c.args.index) c.judge-judged.result.key _) (due_of (goal.at.returns-in-At c).Start) (c.put.ensures.result_value, c.put.ensures.evicted_value)
     (c.judge-judged.ensures.puts _ _ c.in-At.is) in
     record { result_value = clauses.0; evicted_value = clauses.1 }

@@ -15,5 +15,5 @@ pub returns : goal.returns
 returns c =
     let a = c.args in
     let pre = c.requires in
-    moved a.old.now _ c.put.new.1.0 a.key _ a.from a.to pre.0.0
-    (omega (arith, pre.0.1, pre.1.0)) (nine (goal.at.returns c).Start) pre.1.1 (search rules) (search rules)
+    moved a.old.now _ c.put.new.out a.key _ a.from a.to pre.from_le_to.0
+    (omega (arith, pre.from_le_to.1, pre.len.0)) (nine (goal.at.returns c).Start) pre.len.1 (search rules) (search rules)

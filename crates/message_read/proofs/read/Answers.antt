@@ -1,26 +1,11 @@
 -- `message_read::read` meets its contract: the three tests of the whole message, and then the function of its type. Assumes nothing.
-use Prim.Native.Nat.{ℕ}
-use mathlib.Core.Path.{◌≡◌, refl}
-use mathlib.Core.Bool.{true, ◌&&◌}
-use mathlib.Core.List.{List}
-use lib.Dec.{leb}
-use lib.ListN.{get_or, drop}
+use native.Mathlib.Omega.{arith}
+use mathlib.Core.Path.{refl}
 use borrow.Author.Rules.{rules}
-use Rattle.message.specs.Decode.{decode, layout_of, ruled_or4}
 use Rattle.message_read.specs.Shapes.{is_ping, is_pong, is_find_content, is_offer, is_accept}
 use Rattle.message_read.proofs.Answers.{read_as_lem, refused_to}
-use Rattle.message_read.proofs.Containers.{decode_empty, decode_long, none_of_nine, decode_type, decode_body}
+use Rattle.message_read.proofs.Containers.{decode_empty, decode_long, decode_type, decode_body}
 use Rattle.message_read.proofs.read.Goals as goal
-use Rattle.message_read.proofs.read.Goals.{After-shared_slice_known-2-1}
-
--- the message that was read
-abbrev message : After-shared_slice_known-2-1 → List ℕ
-message c = c.args.message.now
-
--- a message of a type from 1 to 9 comes to the layout of the type and then the rules
-body : (c : After-shared_slice_known-2-1) (kind : ℕ) → get_or (message c) 0 0 ≡ kind → (leb 1 kind && leb kind 9) ≡ true
-    → decode (message c) ≡ ruled_or4 (layout_of kind (drop 1 (message c)))
-body c kind e t = decode_body (message c) kind (search rules) (search rules) e t
 
 pub returns-then-message-eq0 : goal.returns-then-message-eq0
 returns-then-message-eq0 c = refused_to c.refused.ensures (decode_empty c.args.message.now (search rules)) (search rules)
@@ -44,37 +29,34 @@ pub key-requires-in-8 : goal.key-requires-in-8
 key-requires-in-8 c = is_accept
 
 pub returns-in-1 : goal.returns-in-1
-returns-in-1 c = read_as_lem (body (goal.at.returns-in-1 c).After-shared_slice_known-2-1 1 c.in-1.is refl) c.radius.ensures
+returns-in-1 c = read_as_lem (decode_body c.args.message.now 1 (search rules) (search rules) c.in-1.is refl) c.radius.ensures
 
 pub returns-in-2 : goal.returns-in-2
-returns-in-2 c = read_as_lem (body (goal.at.returns-in-2 c).After-shared_slice_known-2-1 2 c.in-2.is refl) c.radius-in-2.ensures
+returns-in-2 c = read_as_lem (decode_body c.args.message.now 2 (search rules) (search rules) c.in-2.is refl) c.radius-in-2.ensures
 
 pub returns-in-3 : goal.returns-in-3
-returns-in-3 c = read_as_lem (body (goal.at.returns-in-3 c).After-shared_slice_known-2-1 3 c.in-3.is refl) c.distances.ensures
+returns-in-3 c = read_as_lem (decode_body c.args.message.now 3 (search rules) (search rules) c.in-3.is refl) c.distances.ensures
 
 pub returns-in-4 : goal.returns-in-4
-returns-in-4 c = read_as_lem (body (goal.at.returns-in-4 c).After-shared_slice_known-2-1 4 c.in-4.is refl) c.nodes.ensures
+returns-in-4 c = read_as_lem (decode_body c.args.message.now 4 (search rules) (search rules) c.in-4.is refl) c.nodes.ensures
 
 pub returns-in-5 : goal.returns-in-5
-returns-in-5 c = read_as_lem (body (goal.at.returns-in-5 c).After-shared_slice_known-2-1 5 c.in-5.is refl) c.key.ensures
+returns-in-5 c = read_as_lem (decode_body c.args.message.now 5 (search rules) (search rules) c.in-5.is refl) c.key.ensures
 
 pub returns-in-6 : goal.returns-in-6
-returns-in-6 c = read_as_lem (body (goal.at.returns-in-6 c).After-shared_slice_known-2-1 6 c.in-6.is refl) c.found_content.ensures
+returns-in-6 c = read_as_lem (decode_body c.args.message.now 6 (search rules) (search rules) c.in-6.is refl) c.found_content.ensures
 
 pub returns-in-7 : goal.returns-in-7
-returns-in-7 c = read_as_lem (body (goal.at.returns-in-7 c).After-shared_slice_known-2-1 7 c.in-7.is refl) c.key-in-7.ensures
+returns-in-7 c = read_as_lem (decode_body c.args.message.now 7 (search rules) (search rules) c.in-7.is refl) c.key-in-7.ensures
 
 pub returns-in-8 : goal.returns-in-8
-returns-in-8 c = read_as_lem (body (goal.at.returns-in-8 c).After-shared_slice_known-2-1 8 c.in-8.is refl) c.key-in-8.ensures
+returns-in-8 c = read_as_lem (decode_body c.args.message.now 8 (search rules) (search rules) c.in-8.is refl) c.key-in-8.ensures
 
 pub returns-in-9 : goal.returns-in-9
-returns-in-9 c = read_as_lem (body (goal.at.returns-in-9 c).After-shared_slice_known-2-1 9 c.in-9.is refl) c.store.ensures
+returns-in-9 c = read_as_lem (decode_body c.args.message.now 9 (search rules) (search rules) c.in-9.is refl) c.store.ensures
 
 pub returns-in_default : goal.returns-in_default
 returns-in_default c =
-    let r = c.in_default.in_default-own.rest in
     refused_to c.refused-in_default.ensures
-    (decode_type c.args.message.now (search rules) (search rules)
-    (none_of_nine _ r.0.0.0.0.0.0.0.0.1 r.0.0.0.0.0.0.0.1 r.0.0.0.0.0.0.1 r.0.0.0.0.0.1 r.0.0.0.0.1
-    r.0.0.0.1 r.0.0.1 r.0.1 r.1))
+    (decode_type c.args.message.now (search rules) (search rules) (λ low high. omega arith))
     (search rules)

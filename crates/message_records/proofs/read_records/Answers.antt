@@ -1,21 +1,17 @@
 -- `message_records::read_records` meets its contract: each return is a law of `proofs/Answers.antt`, from the tests that led there and from what
 -- was counted, placed and judged. Assumes nothing.
-use Prim.Native.Nat.{ℕ, ◌*◌, ◌-◌, ◌≤◌}
-use mathlib.Core.Path.{◌≡◌, ◌∙◌}
-use mathlib.Core.List.{List}
+use Prim.Native.Nat.{◌*◌, ◌-◌, ◌≤◌}
+use mathlib.Core.Path.{◌≡◌, ap, ◌∙◌}
+use mathlib.Core.Bool.{not}
 use borrow.Author.Rules.{rules}
 use Rattle.message.specs.Reading.{part_at}
 use Rattle.message_records.proofs.Layouts.{Read, counted}
 use Rattle.message_records.proofs.Answers.{judged_as, reversed, outside, no_bytes, unread, room, in_order_lem, too_many, bad, good}
 use Rattle.message_records.proofs.read_records.Goals as goal
-use Rattle.message_records.proofs.read_records.Goals.{Else-count-eq0, Start}
+use Rattle.message_records.proofs.read_records.Goals.{Else-count-eq0}
 
--- the list
-abbrev list : Start → List ℕ
-list c = part_at c.args.message.now c.args.base (c.args.end - c.args.base)
-
--- it is read, for as many records as were counted
-read : (c : Else-count-eq0) → Read (list c.before.before.before.before.before.before) c.layout-count.result
+-- the list is read, for as many records as were counted
+read : (c : Else-count-eq0) → Read (part_at c.args.message.now c.args.base (c.args.end - c.args.base)) c.layout-count.result
 read c = counted _ _ c.layout-count.ensures (search rules)
 
 pub returns-then-end-base : goal.returns-then-end-base
@@ -40,16 +36,19 @@ pub places-found-requires : goal.places-found-requires
 places-found-requires c =
     let a = c.args in
     let fits : 4 * c.layout-count.result ≤ a.end - a.base = room _ _ _ (search rules) (search rules) _ (read (goal.at.places-found-requires c).Else-count-eq0) in
-    (search rules, in_order_lem _ _ _ (search rules) (search rules) _ (read (goal.at.places-found-requires c).Else-count-eq0))
+    record {
+      size_in_bounds = search rules;
+      size_value = in_order_lem _ _ _ (search rules) (search rules) _ (read (goal.at.places-found-requires c).Else-count-eq0);
+    }
 
 pub returns-then-not-good_records : goal.returns-then-not-good_records
 returns-then-not-good_records c =
     judged_as
     (bad _ _ _ (search rules) (search rules) _ (read (goal.at.returns-then-not-good_records c).Else-count-eq0) (search rules) _ c.places-found.ensures
-    _ c.good_records.ensures c.if-not-good_records.true-raw)
+    _ c.good_records.ensures (ap not c.if-not-good_records.true))
     c.none-then-not-good_records.ensures (search rules)
 
 pub returns : goal.returns
 returns c =
     good _ _ _ (search rules) (search rules) _ (read (goal.at.returns c).Else-count-eq0) (search rules) _ c.places-found.ensures
-    _ c.good_records.ensures c.if-not-good_records.false-raw
+    _ c.good_records.ensures (ap not c.if-not-good_records.false)

@@ -10,7 +10,7 @@ use Rattle.message_rules.proofs.all_different.Goals as goal
 pub loop-i-init : goal.loop-i-init
 loop-i-init c =
     let s = c.args.bytes.now in
-    (search rules, fresh_first s (bytes_all s (λ i. omega (arith, c.shared_slice_known-1.given i))))
+    (search rules, fresh_first s (bytes_all s (λ i. omega (arith, c.type_inv.bytes i))))
 
 pub returns-then-seen-byte-ne0 : goal.returns-then-seen-byte-ne0
 returns-then-seen-byte-ne0 c =

@@ -2,7 +2,6 @@
 -- bytes. One that does not decides. The measure is what is left of the places. Assumes nothing.
 use native.Mathlib.Omega.{arith}
 use mathlib.Core.Path.{◌≡◌, ap, ◌∙◌}
-use mathlib.Core.Bool.{true}
 use lib.ListN.{length}
 use Rattle.message_rules.specs.Good.{inside_at}
 use Rattle.message_rules.proofs.Good.{inside_none, inside_more, within_uneven, within_outside, within_all}

@@ -3,10 +3,9 @@
 -- The measures are what is left of the count. Assumes nothing.
 use Prim.Native.Nat.{ℕ, ◌+◌, ◌≤◌}
 use mathlib.Core.Path.{refl, ◌∙◌}
-use mathlib.Core.Bool.{false}
 use lib.ListN.{length, get_or}
 use borrow.Author.Rules.{rules}
-use Rattle.message_rules.proofs.Pairs.{records, clear_start, clear_end, row_start, row_end, row_next, pair_found}
+use Rattle.message_rules.proofs.Pairs.{clear_start, clear_end, row_start, row_end, row_next, pair_found}
 use Rattle.message_rules.proofs.some_equal.Goals as goal
 use Rattle.message_rules.proofs.some_equal.Goals.{In-loop-j}
 
@@ -28,42 +27,42 @@ loop-j-init c = (c.pairs.invariant.0, row_start _ _ _ _ _ c.pairs.invariant.1 (s
 
 pub overflow_add-a : goal.overflow_add-a
 overflow_add-a c =
-    let f = fit (goal.at.overflow_add-a c).After-a-1 in
+    let f = fit (goal.at.overflow_add-a c).In-loop-j in
     search rules
 
 pub slice_bounds-same-count : goal.slice_bounds-same-count
 slice_bounds-same-count c =
-    let f = fit (goal.at.slice_bounds-same-count c).After-a-1 in
+    let f = fit (goal.at.slice_bounds-same-count c).In-loop-j in
     search rules
 
 pub slice_bounds-same-start : goal.slice_bounds-same-start
 slice_bounds-same-start c =
-    let f = fit (goal.at.slice_bounds-same-start c).After-a-1 in
+    let f = fit (goal.at.slice_bounds-same-start c).In-loop-j in
     search rules
 
 pub slice_bounds-same-end : goal.slice_bounds-same-end
 slice_bounds-same-end c =
-    let f = fit (goal.at.slice_bounds-same-end c).After-a-1 in
+    let f = fit (goal.at.slice_bounds-same-end c).In-loop-j in
     search rules
 
 pub overflow_add-b : goal.overflow_add-b
 overflow_add-b c =
-    let f = fit (goal.at.overflow_add-b c).After-a-1 in
+    let f = fit (goal.at.overflow_add-b c).In-loop-j in
     search rules
 
 pub slice_bounds-same-count-in-loop-j : goal.slice_bounds-same-count-in-loop-j
 slice_bounds-same-count-in-loop-j c =
-    let f = fit (goal.at.slice_bounds-same-count-in-loop-j c).After-a-1 in
+    let f = fit (goal.at.slice_bounds-same-count-in-loop-j c).In-loop-j in
     search rules
 
 pub slice_bounds-same-start-in-loop-j : goal.slice_bounds-same-start-in-loop-j
 slice_bounds-same-start-in-loop-j c =
-    let f = fit (goal.at.slice_bounds-same-start-in-loop-j c).After-a-1 in
+    let f = fit (goal.at.slice_bounds-same-start-in-loop-j c).In-loop-j in
     search rules
 
 pub slice_bounds-same-end-in-loop-j : goal.slice_bounds-same-end-in-loop-j
 slice_bounds-same-end-in-loop-j c =
-    let f = fit (goal.at.slice_bounds-same-end-in-loop-j c).After-a-1 in
+    let f = fit (goal.at.slice_bounds-same-end-in-loop-j c).In-loop-j in
     search rules
 
 pub loop-j-preserved : goal.loop-j-preserved

@@ -1,7 +1,7 @@
 -- `reply_records::nearer` meets its contract: the records gathered are those of the entries that the places stand for. Assumes nothing.
 use native.Mathlib.Omega.{arith}
 use mathlib.Core.Path.{subst}
-use mathlib.Core.List.{List, ◌∷◌, map}
+use mathlib.Core.List.{List, ◌∷◌, map, []}
 use Rattle.routing_table.specs.View.{no_entry}
 use Rattle.routing_table.specs.declared.Entry.{Entry}
 use Rattle.routing_table.proofs.Firsts.{length_firsts}

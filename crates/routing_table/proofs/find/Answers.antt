@@ -15,7 +15,7 @@ returns-then-not-told c =
     let t = a.table in
     let s = c.survey-told in
     let clauses = answered _ _ _ _ c.answer.ensures (look_bad (view t) a.id s.result s.ensures (not-true _ c.if-not-told.true)) (search rules) c.blank.ensures (search rules) in
-    record { result_value = clauses.0; contact_value = clauses.1; failures_value = clauses.2 }
+    record { result_value = clauses.0; contact_value = clauses.1.0; failures_value = clauses.1.1 }
 
 pub offset_bounds-table-at : goal.offset_bounds-table-at
 offset_bounds-table-at c =
@@ -47,7 +47,7 @@ returns-then-at-table c =
     let at = get_firsts no_entry t.count t.entries s.result.entry (search rules) in
     let clauses = answered _ _ _ _ c.answer-then-at-table.ensures (look_entry (view t) a.id s.result s.ensures (not-false _ c.if-not-told.false) (omega (arith, c.if-at-table.true)) ∙ ap entry at)
     (search rules) (search rules) (search rules) in
-    record { result_value = clauses.0; contact_value = clauses.1; failures_value = clauses.2 }
+    record { result_value = clauses.0; contact_value = clauses.1.0; failures_value = clauses.1.1 }
 
 pub offset_bounds-table-place : goal.offset_bounds-table-place
 offset_bounds-table-place c =
@@ -80,7 +80,7 @@ returns-then-place-table c =
     let clauses = answered _ _ _ _ c.answer-then-place-table.ensures
     (look_replacement (view t) a.id s.result s.ensures (not-false _ c.if-not-told.false) (omega (arith, c.if-at-table.false)) (omega (arith, c.if-place-table.true)) ∙ ap replacement at)
     (search rules) (search rules) (search rules) in
-    record { result_value = clauses.0; contact_value = clauses.1; failures_value = clauses.2 }
+    record { result_value = clauses.0; contact_value = clauses.1.0; failures_value = clauses.1.1 }
 
 pub returns : goal.returns
 returns c =
@@ -92,4 +92,4 @@ returns c =
     let clauses = answered _ _ _ _ c.answer-2.ensures
     (look_absent (view t) a.id s.result s.ensures (not-false _ c.if-not-told.false) (omega (arith, c.if-at-table.false)) (omega (arith, c.if-place-table.false)))
     (search rules) c.blank-2.ensures (search rules) in
-    record { result_value = clauses.0; contact_value = clauses.1; failures_value = clauses.2 }
+    record { result_value = clauses.0; contact_value = clauses.1.0; failures_value = clauses.1.1 }

@@ -19,7 +19,7 @@ loop-i-preserved c = (
   search rules,
   search rules,
   c.put.ensures.out_after
-      ∙ digest_more (words_of c.args.state) c.loop-i.out _ c.loop-i.i refl (search rules) c.loop-i.invariant.2 c.word_Bytes.ensures,
+      ∙ digest_more (words_of c.args.state) c.loop-i.out _ c.loop-i.i refl (search rules) c.loop-i.invariant.2 c.word_bytes-four.ensures,
 )
 
 pub returns : goal.returns

@@ -28,7 +28,7 @@ overflow_add-at c =
 
 pub overflow_add-next : goal.overflow_add-next
 overflow_add-next c =
-    let f = fit (goal.at.overflow_add-next c).After-offset_bytes-four in
+    let f = fit (goal.at.overflow_add-next c).In-loop-i in
     search rules
 
 pub loop-i-preserved : goal.loop-i-preserved

@@ -25,27 +25,27 @@ loop-i-init c =
 
 pub overflow_add-end : goal.overflow_add-end
 overflow_add-end c =
-    let f = fit (goal.at.overflow_add-end c).After-start-1 in
+    let f = fit (goal.at.overflow_add-end c).In-loop-i in
     search rules
 
 pub slice_bounds-put-count : goal.slice_bounds-put-count
 slice_bounds-put-count c =
-    let f = fit (goal.at.slice_bounds-put-count c).After-start-1 in
+    let f = fit (goal.at.slice_bounds-put-count c).In-loop-i in
     search rules
 
 pub slice_bounds-put-start : goal.slice_bounds-put-start
 slice_bounds-put-start c =
-    let f = fit (goal.at.slice_bounds-put-start c).After-start-1 in
+    let f = fit (goal.at.slice_bounds-put-start c).In-loop-i in
     search rules
 
 pub slice_bounds-put-end : goal.slice_bounds-put-end
 slice_bounds-put-end c =
-    let f = fit (goal.at.slice_bounds-put-end c).After-start-1 in
+    let f = fit (goal.at.slice_bounds-put-end c).In-loop-i in
     search rules
 
 pub overflow_add-next : goal.overflow_add-next
 overflow_add-next c =
-    let f = fit (goal.at.overflow_add-next c).After-start-1 in
+    let f = fit (goal.at.overflow_add-next c).In-loop-i in
     search rules
 
 pub loop-i-preserved : goal.loop-i-preserved

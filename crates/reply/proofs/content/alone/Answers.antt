@@ -1,4 +1,5 @@
 -- `content::alone` meets its contract: a message without records keeps the rules and is short enough. Assumes nothing.
+use mathlib.Core.List.{[]}
 use mathlib.Core.Path.{◌≡◌}
 use lib.ListN.{length}
 use borrow.Author.Rules.{rules}

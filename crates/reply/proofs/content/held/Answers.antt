@@ -12,7 +12,7 @@ use Rattle.replies.specs.Reply.{in_room}
 use Rattle.reply.proofs.Answers.{replies_as, refused_replies}
 use Rattle.reply.proofs.Contents.{single_content, single_connection, held_content, held_connection, held_none}
 use Rattle.reply.proofs.content.held.Goals as goal
-use Rattle.reply.proofs.content.held.Goals.{Joined-else-content-gt0}
+use Rattle.reply.proofs.content.held.Goals.{After-slice_known-1, Joined-else-content-gt0}
 
 pub alone-requires : goal.alone-requires
 alone-requires c = single_content _ (omega (arith, leb-true))

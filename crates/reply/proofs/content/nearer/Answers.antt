@@ -2,7 +2,7 @@
 use Prim.Native.Nat.{ℕ, ◌≤◌}
 use native.Mathlib.Omega.{arith}
 use mathlib.Core.Path.{◌≡◌, sym, ap, ◌∙◌}
-use mathlib.Core.List.{List, ◌∷◌}
+use mathlib.Core.List.{List, ◌∷◌, []}
 use mathlib.Core.Option.{some}
 use lib.ListN.{length, take}
 use lib.Seq.{length-take-le}
@@ -19,7 +19,7 @@ use Rattle.reply.proofs.Placed.{found_starts, found_lens, found_of_lem, found_sm
 use Rattle.reply.proofs.Tables.{records_send, copied}
 use Rattle.reply.proofs.Contents.{content_replies, group_part, group_rules, group_size, id_is}
 use Rattle.reply.proofs.content.nearer.Goals as goal
-use Rattle.reply.proofs.content.nearer.Goals.{After-first-group, After-nearer-records}
+use Rattle.reply.proofs.content.nearer.Goals.{After-content_id-found, After-first-group, After-id-1, After-lens-1, After-lens-2-1, After-nearer-records}
 
 abbrev id : After-nearer-records → List ℕ
 id c = c.content_id-found.result.id

@@ -3,24 +3,20 @@
 use Prim.Native.Nat.{ℕ, ◌+◌}
 use native.Mathlib.Omega.{arith}
 use mathlib.Core.Path.{refl, sym, ap, ◌∙◌}
-use mathlib.Core.List.{List, ◌∷◌}
+use mathlib.Core.List.{List, ◌∷◌, []}
 use lib.ListN.{get_or}
 use Rattle.message.specs.Reading.{records_at}
 use Rattle.routing_table.specs.View.{view, no_entry}
 use Rattle.routing_table.specs.declared.Entry.{Entry}
-use Rattle.routing_table.specs.declared.RoutingTable.{RoutingTable}
 use Rattle.routing_table.proofs.Firsts.{get_firsts}
 use Rattle.replies.specs.Chosen.{chosen, entry_record, once_from}
 use Rattle.replies.specs.Nodes.{sendable}
-use Rattle.reply_records.specs.Records.{slotted, sent}
-use Rattle.reply_records.specs.declared.order.Order.{Order}
+use Rattle.reply_records.specs.Records.{slotted}
 use Rattle.reply_records.proofs.Kept.{kept_turn, kept_end, records_from, records_next, records_none}
 use borrow.Author.Rules.{rules}
 use Rattle.reply_records.proofs.gather.gather.Goals as goal
 
 -- all records that are due
-abbrev whole : RoutingTable → List ℕ → Order → List (List ℕ)
-whole table own order = sent (own ∷ records_from (view table) order.count order.places 0)
 
 pub keep-count-requires : goal.keep-count-requires
 keep-count-requires c = (

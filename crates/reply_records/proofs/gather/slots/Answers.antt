@@ -1,5 +1,6 @@
 -- `reply_records::gather::slots` meets its contract. The invariant: the array begins with the starts stored. The measure is what is left.
 -- Assumes nothing.
+use mathlib.Core.List.{[]}
 use native.Mathlib.Omega.{arith}
 use mathlib.Core.Path.{refl, sym, ◌∙◌}
 use lib.Seq.{take_all}

@@ -1,5 +1,6 @@
 -- `reply_records::gather::slots` meets its contract. The invariant: the array begins with the starts stored. The measure is what is left.
 -- Assumes nothing.
+use mathlib.Core.List.{[]}
 use Prim.Native.Nat.{◌-◌, ◌≤◌}
 use mathlib.Core.Path.{◌≡◌}
 use lib.ListN.{length}

@@ -11,11 +11,11 @@ sized c = record { entries = search (rules, length_mapped); replacements = searc
 
 pub returns-then-n-lt-FAILURES : goal.returns-then-n-lt-FAILURES
 returns-then-n-lt-FAILURES c = λ d e.
-    miss_counted _ (sized (goal.at.returns-then-n-lt-FAILURES c).After-entry-1) _ c.requires.0 c.requires.1 d _ _ _ _ c.kept.ensures c.entry_put.ensures (search rules) (search rules) (search rules)
+    miss_counted _ (sized (goal.at.returns-then-n-lt-FAILURES c).Start) _ c.requires.0 c.requires.1 d _ _ _ _ c.kept.ensures c.entry_put.ensures (search rules) (search rules) (search rules)
 
 pub returns-then-table-newest : goal.returns-then-table-newest
 returns-then-table-newest c = λ d e.
-    miss_flagged _ (sized (goal.at.returns-then-table-newest c).After-entry-1) _ c.requires.0 c.requires.1 d (search rules) _ e _ _ _ c.kept-then-table-newest.ensures c.entry_put-then-table-newest.ensures (search rules) (search rules)
+    miss_flagged _ (sized (goal.at.returns-then-table-newest c).Start) _ c.requires.0 c.requires.1 d (search rules) _ e _ _ _ c.kept-then-table-newest.ensures c.entry_put-then-table-newest.ensures (search rules) (search rules)
 
 pub returns : goal.returns
 returns c = λ d e.

@@ -24,7 +24,7 @@ told c = told_facts _ _ _ c.survey-told.ensures (not-false _ c.if-not-told.false
 -- and the record fits
 fits : (c : Else-not-record_fits) → sized c.args.contact ≡ true
 fits c =
-    let e = sym c.record_fits.ensures ∙ not-false _ c.if-not-record_fits.false-raw in
+    let e = sym c.record_fits.ensures ∙ c.if-not-record_fits.false in
     search rules
 
 pub returns-then-not-told : goal.returns-then-not-told
@@ -34,7 +34,7 @@ returns-then-not-told c =
 
 pub returns-then-not-record_fits : goal.returns-then-not-record_fits
 returns-then-not-record_fits c =
-    let e = sym c.record_fits.ensures ∙ not-true _ c.if-not-record_fits.true-raw in
+    let e = sym c.record_fits.ensures ∙ c.if-not-record_fits.true in
     let bad : sized c.args.contact ≡ false = search rules in
     ap meaning_of c.refused-then-not-record_fits.ensures ∙ sight_record _ _ _ (search rules) (told (goal.at.returns-then-not-record_fits c).Else-not-told).kept bad
 
@@ -65,7 +65,7 @@ returns-then-told-table-2 c =
 
 pub newcomer-requires : goal.newcomer-requires
 newcomer-requires c =
-    (not-false _ c.if-not-told.false, c.survey-told.ensures)
+    record { good_value = not-false _ c.if-not-told.false; told_value = c.survey-told.ensures }
 
 pub returns : goal.returns
 returns c =

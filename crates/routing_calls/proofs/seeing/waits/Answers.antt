@@ -2,9 +2,8 @@
 use Prim.Native.Nat.{◌<◌, ◌≤◌}
 use native.Mathlib.Omega.{arith}
 use mathlib.Core.Path.{ap, ◌∙◌}
-use mathlib.Core.Logic.{⊎_elim}
 use borrow.Author.Rules.{rules}
-use borrow.Author.Tests.{ltb-true, ltb-false}
+use borrow.Author.Tests.{ltb-true}
 use Rattle.routing_table.specs.View.{view}
 use Rattle.routing_table.specs.declared.RoutingTable.{RoutingTable}
 use Rattle.routing_calls.specs.SeenFor.{as_replacement, meaning_of}
@@ -23,7 +22,7 @@ told c = told_facts _ _ _ c.requires.told_value c.requires.good_value
 
 -- where the test for room failed
 full : (c : Joined-else-told-lt-REPLACEMENTS_EACH) → c.args.told.replacements < 4 → 16 ≤ c.args.table.waiting
-full c h = ⊎_elim (λ w. omega (arith, ltb-false)) (λ w. omega (arith, ltb-false)) c.else-told-lt-REPLACEMENTS_EACH.branch
+full c h = omega arith
 
 pub returns-then-table-lt-REPLACEMENTS : goal.returns-then-table-lt-REPLACEMENTS
 returns-then-table-lt-REPLACEMENTS c =

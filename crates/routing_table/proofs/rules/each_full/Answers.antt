@@ -1,20 +1,14 @@
 -- `routing_table::rules::each_full` meets its contract. The invariant: the test of all log distances is the test of those that are left. The
 -- measure is what is left. Assumes nothing.
-use Prim.Native.Nat.{ℕ}
 use native.Mathlib.Omega.{arith}
 use mathlib.Core.Path.{sym, ◌∙◌}
-use mathlib.Core.Bool.{Bool}
-use mathlib.Core.List.{List}
-use lib.Dec.{leb}
 use lib.ListN.{get_or}
 use borrow.Author.Rules.{rules}
 use borrow.Author.Tests.{le-leb, lt-leb}
 use Rattle.routing_table.specs.Places.{count_of}
 use Rattle.routing_table.proofs.Passes.{every_fails, every_later, every_end}
+use Rattle.routing_table.proofs.rules.each_full.Invariants.{test}
 use Rattle.routing_table.proofs.rules.each_full.Goals as goal
-
-abbrev test : List ℕ → ℕ → Bool
-test entries d = leb 16 (count_of d entries)
 
 pub returns-then-count-lt-ENTRIES_EACH : goal.returns-then-count-lt-ENTRIES_EACH
 returns-then-count-lt-ENTRIES_EACH c =

@@ -1,20 +1,14 @@
--- `routing_table::rules::none_over_lem` meets its contract. The invariant: the test of all log distances is the test of those that are left. The
+-- `routing_table::rules::none_over` meets its contract. The invariant: the test of all log distances is the test of those that are left. The
 -- measure is what is left. Assumes nothing.
-use Prim.Native.Nat.{ℕ}
 use native.Mathlib.Omega.{arith}
 use mathlib.Core.Path.{sym, ◌∙◌}
-use mathlib.Core.Bool.{Bool}
-use mathlib.Core.List.{List}
-use lib.Dec.{leb}
 use lib.ListN.{get_or}
 use borrow.Author.Rules.{rules}
 use borrow.Author.Tests.{le-leb, lt-leb}
 use Rattle.routing_table.specs.Places.{count_of}
 use Rattle.routing_table.proofs.Passes.{every_fails, every_later, every_end}
+use Rattle.routing_table.proofs.rules.none_over.Invariants.{test}
 use Rattle.routing_table.proofs.rules.none_over.Goals as goal
-
-abbrev test : ℕ → List ℕ → ℕ → Bool
-test most logs d = leb (count_of d logs) most
 
 pub returns-then-most-count : goal.returns-then-most-count
 returns-then-most-count c =

@@ -6,7 +6,7 @@ use mathlib.Core.Path.{◌≡◌, sym, ◌∙◌}
 use mathlib.Core.Bool.{true, false}
 use lib.ListN.{get_or}
 use borrow.Author.Rules.{rules}
-use borrow.Author.Tests.{le-leb, lt-leb, not-true, not-false}
+use borrow.Author.Tests.{le-leb, lt-leb}
 use Rattle.routing_table.specs.View.{no_entry}
 use Rattle.routing_table.specs.Good.{sized, sound_entry}
 use Rattle.routing_table.specs.declared.Entry.{Entry}
@@ -32,7 +32,7 @@ returns-then-not-record_fits c =
     let t = c.args.table in
     let e = get_or t.entries c.loop-i.i no_entry in
     let few : e.failures ≤ 3 = omega (arith, c.if-entry-gt-FAILURES.false) in
-    let told = sym c.record_fits.ensures ∙ not-true _ c.if-not-record_fits.true-raw in
+    let told = sym c.record_fits.ensures ∙ c.if-not-record_fits.true in
     let bad : sized e.contact ≡ false = search rules in
     sym (c.loop-i.invariant.2 ∙ firsts_fail sound_entry no_entry t.count t.entries c.loop-i.i (search rules) (by_record e few ∙ bad))
 
@@ -41,7 +41,7 @@ loop-i-preserved c =
     let t = c.args.table in
     let e = get_or t.entries c.loop-i.i no_entry in
     let few : e.failures ≤ 3 = omega (arith, c.if-entry-gt-FAILURES.false) in
-    let told = sym c.record_fits.ensures ∙ not-false _ c.if-not-record_fits.false-raw in
+    let told = sym c.record_fits.ensures ∙ c.if-not-record_fits.false in
     let well : sized e.contact ≡ true = search rules in (
       omega arith,
       c.loop-i.invariant.1,

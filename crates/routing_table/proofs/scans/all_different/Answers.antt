@@ -1,8 +1,8 @@
 -- `routing_table::scans::all_different` meets its contract. The invariants: before a row, no id of an earlier row is equal to another
 -- (`Clear`); in a row, nor is the row's id to those passed (`Row`). The measures are what is left of the ids. Assumes nothing.
+use mathlib.Core.List.{[]}
 use native.Mathlib.Omega.{arith}
 use mathlib.Core.Path.{refl, sym, ◌∙◌}
-use mathlib.Core.Bool.{true}
 use borrow.Author.Rules.{rules}
 use Rattle.octets.specs.Equal.{same_bytes}
 use Rattle.octets.proofs.Pairs.{clear_start, clear_end, row_start, row_end, row_next, pair_found}

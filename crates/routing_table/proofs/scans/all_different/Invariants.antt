@@ -1,5 +1,6 @@
 -- `routing_table::scans::all_different` meets its contract. The invariants: before a row, no id of an earlier row is equal to another
 -- (`Clear`); in a row, nor is the row's id to those passed (`Row`). The measures are what is left of the ids. Assumes nothing.
+use mathlib.Core.List.{[]}
 use Prim.Native.Nat.{◌-◌}
 use mathlib.Core.Path.{◌≡◌}
 use mathlib.Core.Bool.{true}

@@ -2,23 +2,23 @@
 -- whole. The measure is what is left. Assumes nothing.
 use native.Mathlib.Omega.{arith}
 use lib.ListN.{get_or}
-use mathlib.Core.Logic.{⊎_elim}
 use borrow.Author.Rules.{rules}
 use borrow.Author.Tests.{eq-eqb, ne_eqb}
 use Rattle.routing_table.proofs.Passes.{count_here, count_later, count_end}
 use Rattle.routing_table.proofs.scans.count.Goals as goal
+use Rattle.routing_table.proofs.scans.count.Goals.{then-d-logs, else-d-logs}
 
 pub loop-i-preserved : goal.loop-i-preserved
 loop-i-preserved c =
     let a = c.args in
-    ⊎_elim
-    (λ w.
-    let here = count_here a.d a.logs.now c.loop-i.i (search rules) (eq-eqb a.d (get_or a.logs.now c.loop-i.i 0) (omega (arith, w.0.taken))) in
-    (omega arith, c.loop-i.invariant.1, omega arith, omega arith))
-    (λ w.
-    let later = count_later a.d a.logs.now c.loop-i.i (search rules) (ne_eqb a.d (get_or a.logs.now c.loop-i.i 0) (λ e. omega (arith, w.0.left))) in
-    (omega arith, c.loop-i.invariant.1, omega arith, omega arith))
-    c.if-d-logs.branch
+    elim c.if-d-logs.branch [
+      | then-d-logs w ↦
+          let here = count_here a.d a.logs.now c.loop-i.i (search rules) (eq-eqb a.d (get_or a.logs.now c.loop-i.i 0) (omega (arith, w.if-d-logs.true))) in
+          (omega arith, c.loop-i.invariant.1, omega arith, omega arith)
+      | else-d-logs w ↦
+          let later = count_later a.d a.logs.now c.loop-i.i (search rules) (ne_eqb a.d (get_or a.logs.now c.loop-i.i 0) (λ e. omega (arith, w.if-d-logs.false))) in
+          (omega arith, c.loop-i.invariant.1, omega arith, omega arith)
+    ]
 
 pub returns : goal.returns
 returns c =

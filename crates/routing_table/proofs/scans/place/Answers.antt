@@ -1,5 +1,6 @@
 -- `routing_table::scans::place` meets its contract. The invariant: the first place in the whole is i more than the first place in what is
 -- left. The measure is what is left. Assumes nothing.
+use mathlib.Core.List.{[]}
 use native.Mathlib.Omega.{arith}
 use mathlib.Core.Path.{sym, ◌∙◌}
 use borrow.Author.Rules.{rules}

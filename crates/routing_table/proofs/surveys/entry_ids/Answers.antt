@@ -2,7 +2,7 @@
 -- what is left of the count. Assumes nothing.
 use native.Mathlib.Omega.{arith}
 use mathlib.Core.Path.{refl, sym}
-use mathlib.Core.List.{◌∷◌}
+use mathlib.Core.List.{[], ◌∷◌}
 use borrow.Author.Rules.{rules}
 use Rattle.routing_table.specs.View.{view, entry_id, entry_ids, no_entry}
 use Rattle.routing_table.proofs.Filled.{filled_next, filled_end}

@@ -2,7 +2,7 @@
 -- what is left of the count. Assumes nothing.
 use Prim.Native.Nat.{◌-◌, ◌≤◌}
 use mathlib.Core.Path.{◌≡◌}
-use mathlib.Core.List.{◌∷◌}
+use mathlib.Core.List.{[], ◌∷◌}
 use lib.ListN.{length}
 use Rattle.routing_table.specs.View.{view, entry_ids}
 use Rattle.routing_table.proofs.Filled.{Filled}

@@ -1,7 +1,6 @@
 -- `routing_table::surveys::fitted` meets its contract: the parts of ids and log distances are those of the entries and of the replacements
 -- (`proofs/Cuts.antt`). Assumes nothing.
 use mathlib.Core.Path.{sym, ◌∙◌}
-use borrow.Author.Tests.{not-true, not-false}
 use Rattle.routing_table.proofs.Cuts.{misfit, fitting}
 use borrow.Author.Rules.{rules}
 use Rattle.routing_table.proofs.surveys.fitted.Goals as goal
@@ -11,11 +10,11 @@ returns-then-not-fit c =
     λ v o i l m.
     let a = c.args in
     c.nothing.ensures
-    ∙ misfit v a.own a.id a.ids.now a.logs.now a.middle o i l m (sym c.fit.ensures ∙ not-true _ c.if-not-fit.true-raw)
+    ∙ misfit v a.own a.id a.ids.now a.logs.now a.middle o i l m (sym c.fit.ensures ∙ c.if-not-fit.true)
 
 pub returns : goal.returns
 returns c =
     λ v o i l m.
     let a = c.args in
     fitting v a.own a.id a.ids.now a.logs.now a.middle o i l m _ (search rules)
-    (sym c.fit.ensures ∙ not-false _ c.if-not-fit.false-raw) _ c.told.ensures
+    (sym c.fit.ensures ∙ c.if-not-fit.false) _ c.told.ensures

@@ -3,7 +3,7 @@
 use Prim.Native.Nat.{◌+◌}
 use native.Mathlib.Omega.{arith}
 use mathlib.Core.Path.{sym}
-use mathlib.Core.List.{◌∷◌}
+use mathlib.Core.List.{[], ◌∷◌}
 use borrow.Author.Rules.{rules}
 use Rattle.routing_table.specs.View.{view, contact_id, entry_ids, replacement_ids, no_contact}
 use Rattle.routing_table.proofs.Filled.{filled_start, filled_next, filled_end}

@@ -1,5 +1,6 @@
 -- `routing_table::surveys::logs_of` meets its contract. The invariant: the array begins with the log distances stored. The measure is what
 -- is left of the ids. Assumes nothing.
+use mathlib.Core.List.{[]}
 use Prim.Native.Nat.{ℕ, ◌+◌}
 use native.Mathlib.Omega.{arith}
 use mathlib.Core.Path.{◌≡◌, refl, sym, ap, ◌∙◌}

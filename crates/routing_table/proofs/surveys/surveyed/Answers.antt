@@ -4,7 +4,6 @@ use native.Mathlib.Omega.{arith}
 use mathlib.Core.Path.{◌≡◌, refl, sym, ap, ◌∙◌}
 use lib.ListN.{length, take}
 use lib.Seq.{length-take-le}
-use borrow.Author.Tests.{not-true, not-false}
 use Rattle.octets.specs.Equal.{same_bytes, all_different}
 use Rattle.routing_table.specs.View.{view, no_entry, no_contact, logs_of}
 use Rattle.routing_table.specs.declared.RoutingTable.{RoutingTable}
@@ -33,7 +32,7 @@ returns-then-not-sound c =
     let t = c.args.table in
     let e = length_firsts no_entry t.count t.entries in
     let w = length_firsts no_contact t.waiting t.replacements in
-    c.nothing.ensures ∙ sym (not_sound (view t) c.args.id (omega arith) (omega arith) (sym c.sound.ensures ∙ not-true _ c.if-not-sound.true-raw))
+    c.nothing.ensures ∙ sym (not_sound (view t) c.args.id (omega arith) (omega arith) (sym c.sound.ensures ∙ c.if-not-sound.true))
 
 pub slice_bounds-ids-end : goal.slice_bounds-ids-end
 slice_bounds-ids-end c = sym (long_ids (goal.at.slice_bounds-ids-end c).After-ids_of-all)
@@ -46,8 +45,8 @@ returns-then-not-all_different c =
     let one = ap (all_different same_bytes) c.ids_of-all.ensures in
     c.nothing-then-not-all_different.ensures
     ∙ sym (some_same (view t) c.args.id (omega arith) (omega arith)
-    (sym c.sound.ensures ∙ not-false _ c.if-not-sound.false-raw)
-    (sym one ∙ sym c.all_different.ensures ∙ not-true _ c.if-not-all_different.true-raw))
+    (sym c.sound.ensures ∙ c.if-not-sound.false)
+    (sym one ∙ sym c.all_different.ensures ∙ c.if-not-all_different.true))
 
 pub logs_of-each-requires : goal.logs_of-each-requires
 logs_of-each-requires c =
@@ -73,5 +72,5 @@ returns c =
     let logs = ap (λ (n : ℕ). take n c.logs_of-each.result) (sym (long_ids (goal.at.returns c).After-ids_of-all)) ∙ c.logs_of-each.ensures ∙ ap (logs_of t.own) ids in
     c.fitted.ensures (view t) refl ids logs (omega arith)
     ∙ sym (by_logs (view t) c.args.id (omega arith) (omega arith)
-    (sym c.sound.ensures ∙ not-false _ c.if-not-sound.false-raw)
-    (sym one ∙ sym c.all_different.ensures ∙ not-false _ c.if-not-all_different.false-raw))
+    (sym c.sound.ensures ∙ c.if-not-sound.false)
+    (sym one ∙ sym c.all_different.ensures ∙ c.if-not-all_different.false))

@@ -8,5 +8,5 @@ pub returns : goal.returns
 returns c =
     let a = c.args in
     let read = c.read_frame-framed in
-    key_read a.node a.cap a.first a.last (drop a.at a.text.now) _ _ _ _ _ _ read.ensures.0 read.ensures.1 (search rules)
+    key_read a.node a.cap a.first a.last (drop a.at a.text.now) _ _ _ _ _ _ read.ensures.value read.ensures.frame_after (search rules)
     c.part9-key.ensures c.away-far.ensures c.key_passes-keeps.ensures c.passes-good.ensures

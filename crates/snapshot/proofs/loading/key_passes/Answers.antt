@@ -1,7 +1,7 @@
 -- `snapshot::loading::key_passes` meets its contract: each return is a law of the test (`proofs/Answers.antt`). Assumes nothing.
 use native.Mathlib.Omega.{arith}
 use mathlib.Core.Path.{sym, ◌∙◌}
-use borrow.Author.Tests.{not-true, not-false, leb-true, leb-false}
+use borrow.Author.Tests.{leb-true, leb-false}
 use Rattle.snapshot.proofs.Answers.{bad_selector, too_near, by_cap}
 use Rattle.snapshot.proofs.loading.key_passes.Goals as goal
 
@@ -13,10 +13,10 @@ returns-then-key-gt1 c =
 pub returns-then-not-farther : goal.returns-then-not-farther
 returns-then-not-farther c =
     let a = c.args in
-    too_near a.key a.far a.first a.last a.cap _ c.farther.ensures (not-true _ c.if-not-farther.true-raw)
+    too_near a.key a.far a.first a.last a.cap _ c.farther.ensures c.if-not-farther.true
 
 pub returns : goal.returns
 returns c =
     let a = c.args in
-    by_cap a.key a.far a.first a.last a.cap _ _ c.if-key-gt1.false c.farther.ensures (not-false _ c.if-not-farther.false-raw)
+    by_cap a.key a.far a.first a.last a.cap _ _ c.if-key-gt1.false c.farther.ensures c.if-not-farther.false
     (λ e. let t = sym c.at_most.ensures ∙ e in omega (arith, leb-true)) (λ e. let t = sym c.at_most.ensures ∙ e in omega (arith, leb-false))

@@ -1,12 +1,11 @@
 -- `snapshot::loading::passes` meets its contract: each return is a law of the test (`proofs/Answers.antt`). Assumes nothing.
-use borrow.Author.Tests.{not-true, not-false}
 use Rattle.snapshot.proofs.Answers.{unframed, other_kind, by_rules}
 use Rattle.snapshot.proofs.loading.passes.Goals as goal
 
 pub returns-then-not-framed : goal.returns-then-not-framed
 returns-then-not-framed c =
     let a = c.args in
-    unframed a.framed a.kind a.wanted a.keeps (not-true _ c.if-not-framed.true-raw)
+    unframed a.framed a.kind a.wanted a.keeps c.if-not-framed.true
 
 pub returns-then-kind-wanted : goal.returns-then-kind-wanted
 returns-then-kind-wanted c =
@@ -16,4 +15,4 @@ returns-then-kind-wanted c =
 pub returns : goal.returns
 returns c =
     let a = c.args in
-    by_rules a.framed a.kind a.wanted a.keeps (not-false _ c.if-not-framed.false-raw) c.if-kind-wanted.false
+    by_rules a.framed a.kind a.wanted a.keeps c.if-not-framed.false c.if-kind-wanted.false

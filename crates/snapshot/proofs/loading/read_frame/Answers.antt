@@ -25,7 +25,7 @@ returns-in-Bytes c =
     let a = c.args in
     let d = c.decode-decoded in
     let clauses = frame_read (drop a.at a.text.now) a.frame.now (omega (arith, c.if-text-at.false, length-drop a.at a.text.now))
-    (get_or-drop a.at a.text.now (2 * length a.frame.now) 0 ∙ c.if-text-end-ne10.false) (a.at + 2 * length a.frame.now - a.at) (omega arith) _ _ d.ensures.0 d.ensures.1 c.in-Bytes.is in
+    (get_or-drop a.at a.text.now (2 * length a.frame.now) 0 ∙ c.if-text-end-ne10.false) (a.at + 2 * length a.frame.now - a.at) (omega arith) _ _ d.ensures.value d.ensures.out_after c.in-Bytes.is in
     record { value = clauses.0; frame_after = clauses.1 }
 
 pub returns-in-NotHex : goal.returns-in-NotHex
@@ -33,13 +33,12 @@ returns-in-NotHex c =
     let a = c.args in
     let d = c.decode-decoded in
     let clauses = frame_not (drop a.at a.text.now) a.frame.now (omega (arith, c.if-text-at.false, length-drop a.at a.text.now))
-    (get_or-drop a.at a.text.now (2 * length a.frame.now) 0 ∙ c.if-text-end-ne10.false) (a.at + 2 * length a.frame.now - a.at) (omega arith) _ _ d.ensures.0 d.ensures.1 c.in-NotHex.is in
+    (get_or-drop a.at a.text.now (2 * length a.frame.now) 0 ∙ c.if-text-end-ne10.false) (a.at + 2 * length a.frame.now - a.at) (omega arith) _ _ d.ensures.value d.ensures.out_after c.in-NotHex.is in
     record { value = clauses.0; frame_after = clauses.1 }
 
 pub returns-in-NoRoom : goal.returns-in-NoRoom
 returns-in-NoRoom c =
     let a = c.args in
     let d = c.decode-decoded in
-    let clauses = absurd (frame_room (drop a.at a.text.now) a.frame.now (omega (arith, c.if-text-at.false, length-drop a.at a.text.now))
-    (get_or-drop a.at a.text.now (2 * length a.frame.now) 0 ∙ c.if-text-end-ne10.false) (a.at + 2 * length a.frame.now - a.at) (omega arith) _ _ d.ensures.0 d.ensures.1 c.in-NoRoom.is) in
-    record { value = clauses.0; frame_after = clauses.1 }
+    absurd (frame_room (drop a.at a.text.now) a.frame.now (omega (arith, c.if-text-at.false, length-drop a.at a.text.now))
+    (get_or-drop a.at a.text.now (2 * length a.frame.now) 0 ∙ c.if-text-end-ne10.false) (a.at + 2 * length a.frame.now - a.at) (omega arith) _ _ d.ensures.value d.ensures.out_after c.in-NoRoom.is)

@@ -3,7 +3,6 @@
 use native.Mathlib.Omega.{arith}
 use mathlib.Core.Path.{◌≡◌, sym, ◌∙◌}
 use borrow.Author.Rules.{rules}
-use borrow.Author.Tests.{not-true, not-false}
 use Rattle.key_index.specs.View.{key_limit, view}
 use Rattle.key_index.specs.Good.{good}
 use Rattle.snapshot.proofs.Turns.{reload_bad, reload_line, reload_view}
@@ -17,15 +16,15 @@ tested c = sym c.is_good.ensures
 pub returns-then-not-is_good : goal.returns-then-not-is_good
 returns-then-not-is_good c =
     let a = c.args in
-    reload_bad key_limit a.index a.text.now (tested (goal.at.returns-then-not-is_good c).After-is_good ∙ not-true _ c.if-not-is_good.true-raw)
+    reload_bad key_limit a.index a.text.now (tested (goal.at.returns-then-not-is_good c).After-is_good ∙ c.if-not-is_good.true)
 
 pub returns-then-line-ne0 : goal.returns-then-line-ne0
 returns-then-line-ne0 c =
     let a = c.args in
-    reload_line key_limit a.index a.text.now (tested (goal.at.returns-then-line-ne0 c).After-is_good ∙ not-false _ c.if-not-is_good.false-raw) _ _ c.load-loaded.ensures _ (search rules)
+    reload_line key_limit a.index a.text.now (tested (goal.at.returns-then-line-ne0 c).After-is_good ∙ c.if-not-is_good.false) _ _ c.load-loaded.ensures _ (search rules)
     (omega (arith, c.if-line-ne0.true))
 
 pub returns : goal.returns
 returns c =
     let a = c.args in
-    reload_view key_limit a.index a.text.now (tested (goal.at.returns c).After-is_good ∙ not-false _ c.if-not-is_good.false-raw) _ _ c.load-loaded.ensures (search rules)
+    reload_view key_limit a.index a.text.now (tested (goal.at.returns c).After-is_good ∙ c.if-not-is_good.false) _ _ c.load-loaded.ensures (search rules)

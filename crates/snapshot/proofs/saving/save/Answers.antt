@@ -6,7 +6,6 @@ use mathlib.Core.Path.{◌≡◌, sym, ◌∙◌}
 use mathlib.Core.Bool.{true}
 use lib.ListN.{length}
 use borrow.Author.Rules.{rules}
-use borrow.Author.Tests.{not-true, not-false}
 use Rattle.key_index.specs.View.{key_limit, view}
 use Rattle.key_index.specs.Good.{good}
 use Rattle.snapshot.specs.Text.{snapshot_of}
@@ -29,7 +28,7 @@ tested c = sym c.is_good.ensures
 
 -- past the first test the index is good, and has few keys
 is_good : (c : Else-not-is_good) → good key_limit (view c.args.index) ≡ true
-is_good c = tested c.before ∙ not-false _ c.if-not-is_good.false-raw
+is_good c = sym c.is_good.ensures ∙ c.if-not-is_good.false
 
 few : (c : Else-not-is_good) → c.args.index.count ≤ key_limit
 few c = let i = c.args.index in few_keys key_limit i.node i.cap i.keys i.count (is_good c)
@@ -42,16 +41,16 @@ size c f =
 pub returns-then-not-is_good : goal.returns-then-not-is_good
 returns-then-not-is_good c =
     let a = c.args in
-    save_bad key_limit (view a.index) a.out.now (tested (goal.at.returns-then-not-is_good c).After-is_good ∙ not-true _ c.if-not-is_good.true-raw)
+    save_bad key_limit (view a.index) a.out.now (tested (goal.at.returns-then-not-is_good c).After-is_good ∙ c.if-not-is_good.true)
 
 pub overflow_mul-size : goal.overflow_mul-size
 overflow_mul-size c =
-    let f = few c in
+    let f = few (goal.at.overflow_mul-size c).Else-not-is_good in
     search rules
 
 pub overflow_add-size : goal.overflow_add-size
 overflow_add-size c =
-    let f = few c in
+    let f = few (goal.at.overflow_add-size c).Else-not-is_good in
     search rules
 
 pub returns-then-out-size : goal.returns-then-out-size

@@ -16,7 +16,7 @@ TOP = Path(__file__).resolve().parents[1]
 def listed():
     """Each crate of crates.txt, with the crates of the repository that it stands over."""
     lines = [line.split('#')[0].split(':') for line in (TOP / 'crates.txt').read_text().splitlines()]
-    over = {line[0].strip(): line[1].split() for line in lines if len(line) == 2}
+    over = {line[0].split()[0]: line[1].split() for line in lines if len(line) == 2}
     return {name: {below for below in names if below in over} for name, names in over.items()}
 
 

@@ -1,5 +1,5 @@
 -- The pass of `is_good`. `Scan` is what holds at the loop's head: the rules of the index are the rules on the keys from place i on, the
--- first of them farther than `last`. `Turn` is a turn's key and its distance; the laws on it are the ways that a turn ends. Assumes nothing.
+-- first of them farther than `last`. The laws on the key that a turn reads are the ways that a turn ends. Assumes nothing.
 use Prim.Native.Nat.{ℕ, zero, suc, ◌+◌, ◌-◌, ◌*◌, ◌≤◌, ◌<◌}
 use native.Mathlib.Numerals.{add-one}
 use native.Mathlib.Omega.{arith}
@@ -21,7 +21,7 @@ use Rattle.key_index.specs.Good.{away_from, good_from, good}
 use Rattle.key_index.proofs.Chunks.{chunks_length, chunks_rest, drop_take}
 
 -- an index with too many keys is bad
-pub good_many : (limit : ℕ) (node cap bytes : List ℕ) (count : ℕ) → limit < count → false ≡ good limit (view_of node cap bytes count)
+pub good_many : (limit : ℕ) (node cap bytes : List ℕ) (count : ℕ) → limit < count → good limit (view_of node cap bytes count) ≡ false
 unfolding good
 good_many limit node cap bytes count h = rw (chunks_length count bytes, lt-leb count limit h)
 
@@ -96,57 +96,47 @@ part_block n bytes =
 part_away : (node : List ℕ) (n : ℕ) (bytes : List ℕ) → away_from node (bytes_at 9 n bytes) ≡ away_from node (take 9 (drop n bytes))
 part_away node n bytes = ap₂ (λ (s b : ℕ). be (xor_of node (id_of s b))) (part_selector n bytes) (part_block n bytes)
 
-pub record Turn (limit : ℕ) (node cap bytes : List ℕ) (count : ℕ) (last : List ℕ) (i : ℕ) (key far : List ℕ) : Type 0 where
-  pub scan : Scan limit node cap bytes count last i
-  pub more : i < count
-  pub read : key ≡ bytes_at 9 (i * 9) bytes
-  pub is : far ≡ xor_of node (key_id key)
+-- the distance of the key that a turn reads
+abbrev read_away : List ℕ → List ℕ → ℕ → ℕ
+read_away node bytes i = be (xor_of node (key_id (bytes_at 9 (i * 9) bytes)))
 
-module _ {limit : ℕ} {node cap bytes : List ℕ} {count : ℕ} {last : List ℕ} {i : ℕ} {key far : List ℕ}
-    (t : Turn limit node cap bytes count last i key far) where
-  abbrev here : List ℕ
-  here = take 9 (drop (9 * i) bytes)
+-- the ways that a turn at place i ends, by the key that it reads there. Each law begins with the test of the rules from place i on, by
+-- which `grind` finds it at a return and at the next turn
+module _ (node cap last bytes : List ℕ) (i count : ℕ) (more : i < count) where
+  split : good_from node (be cap) (low i (be last)) (chunks (count - i) (drop (9 * i) bytes))
+      ≡ good_from node (be cap) (low i (be last)) (take 9 (drop (9 * i) bytes) ∷ chunks (count - suc i) (drop (9 * suc i) bytes))
+  split = ap (good_from node (be cap) (low i (be last))) (chunks_rest count i bytes more)
 
-  abbrev after : List (List ℕ)
-  after = chunks (count - suc i) (drop (9 * suc i) bytes)
+  its_selector : get_or (bytes_at 9 (i * 9) bytes) 0 0 ≡ selector_of (take 9 (drop (9 * i) bytes))
+  its_selector = let e : i * 9 ≡ 9 * i = omega arith in ap (λ (n : ℕ). selector_of (bytes_at 9 n bytes)) e ∙ part_selector (9 * i) bytes
 
-  split : good limit (view_of node cap bytes count) ≡ good_from node (be cap) (low i (be last)) (here ∷ after)
-  split = t.scan.same ∙ ap (good_from node (be cap) (low i (be last))) (chunks_rest count i bytes t.more)
-
-  reads : key ≡ bytes_at 9 (9 * i) bytes
-  reads = let e : i * 9 ≡ 9 * i = omega arith in t.read ∙ ap (λ (n : ℕ). bytes_at 9 n bytes) e
-
-  selector : get_or key 0 0 ≡ selector_of here
-  selector = ap selector_of reads ∙ part_selector (9 * i) bytes
-
-  distance : be far ≡ away_from node here
-  distance = ap be t.is ∙ ap (away_from node) reads ∙ part_away node (9 * i) bytes
+  its_distance : read_away node bytes i ≡ away_from node (take 9 (drop (9 * i) bytes))
+  its_distance = let e : i * 9 ≡ 9 * i = omega arith in ap (λ (n : ℕ). away_from node (bytes_at 9 n bytes)) e ∙ part_away node (9 * i) bytes
 
   -- the selector is neither 0 nor 1
-  pub turn_selector : 1 < get_or key 0 0 → false ≡ good limit (view_of node cap bytes count)
-  turn_selector b = sym (split ∙ bad_selector node (be cap) (low i (be last)) here after (omega (arith, selector)))
+  pub turn_selector : 1 < get_or (bytes_at 9 (i * 9) bytes) 0 0
+      → good_from node (be cap) (low i (be last)) (chunks (count - i) (drop (9 * i) bytes)) ≡ false
+  turn_selector b = split ∙ bad_selector node (be cap) (low i (be last)) _ _ (omega (arith, its_selector))
 
   -- the key is not farther than the one before
-  pub turn_order : 0 < i → be far ≤ be last → false ≡ good limit (view_of node cap bytes count)
+  pub turn_order : 0 < i → read_away node bytes i ≤ be last
+      → good_from node (be cap) (low i (be last)) (chunks (count - i) (drop (9 * i) bytes)) ≡ false
   turn_order z b =
-      sym
-      (split
-      ∙ bad_order node (be cap) (low i (be last)) here after (low_over i (be last) (away_from node here) z (omega (arith, distance))))
+      split ∙ bad_order node (be cap) (low i (be last)) _ _ (low_over i (be last) _ z (omega (arith, its_distance)))
 
   -- the key is beyond the cap
-  pub turn_cap : be cap < be far → false ≡ good limit (view_of node cap bytes count)
-  turn_cap b = sym (split ∙ bad_cap node (be cap) (low i (be last)) here after (omega (arith, distance)))
+  pub turn_cap : be cap < read_away node bytes i
+      → good_from node (be cap) (low i (be last)) (chunks (count - i) (drop (9 * i) bytes)) ≡ false
+  turn_cap b = split ∙ bad_cap node (be cap) (low i (be last)) _ _ (omega (arith, its_distance))
 
   -- the key keeps the rules
-  pub turn_next : get_or key 0 0 ≤ 1 → (0 < i → be last < be far) → be far ≤ be cap → Scan limit node cap bytes count far (i + 1)
+  pub turn_next : get_or (bytes_at 9 (i * 9) bytes) 0 0 ≤ 1 → (0 < i → be last < read_away node bytes i) → read_away node bytes i ≤ be cap
+      → good_from node (be cap) (low i (be last)) (chunks (count - i) (drop (9 * i) bytes))
+      ≡ good_from node (be cap) (low (i + 1) (read_away node bytes i)) (chunks (count - (i + 1)) (drop (9 * (i + 1)) bytes))
   turn_next b o w =
-      record {
-        few = t.scan.few;
-        inside = let h = t.more in omega arith;
-        same = rw (add-one i)
-            (split
-            ∙ kept node (be cap) (low i (be last)) here after (omega (arith, selector))
-            (low_under i (be last) (away_from node here) (λ z. omega (arith, distance, o z)))
-            (omega (arith, distance))
-            ∙ ap (λ (n : ℕ). good_from node (be cap) (suc n) after) (sym distance));
-      }
+      rw (add-one i)
+      (split
+      ∙ kept node (be cap) (low i (be last)) _ _ (omega (arith, its_selector))
+      (low_under i (be last) _ (λ z. omega (arith, its_distance, o z)))
+      (omega (arith, its_distance))
+      ∙ ap (λ (n : ℕ). good_from node (be cap) (suc n) (chunks (count - suc i) (drop (9 * suc i) bytes))) (sym its_distance))

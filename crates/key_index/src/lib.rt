@@ -107,6 +107,7 @@ pub fn holds(index: KeyIndex, bytes: &[u8]) -> Holding
 
 // Whether an index with these parts keeps its rules, its keys the first `count` of an array. It takes the parts, and not the index, so
 // that no caller copies the array for it.
+#[tactic(auto, using(crate::proofs::Scan::good_many, crate::proofs::Scan::turn_selector, crate::proofs::Scan::turn_order, crate::proofs::Scan::turn_cap, crate::proofs::Scan::turn_next))]
 pub fn is_good(node: [u8; 32], cap: [u8; 32], keys: &[u8], count: usize) -> bool
     ensures { result ≡ good key_limit (view_of node cap keys.now count) }
 {

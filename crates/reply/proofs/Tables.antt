@@ -38,12 +38,12 @@ use Rattle.reply_records.specs.declared.Records.{Records}
 use Rattle.reply.proofs.Placed.{sent_none, sent_own}
 
 -- what is shown of each element of an array is shown of one
-each_one : {X Y : Type 0} (into : X → Y) (own : Y → List Val → Fml) (xs : List X) (us : List Val) → shadow (each Y own (map into xs) us)
-    → {x : X} → x among xs → (u : Val) × shadow (own (into x) (u ∷ []))
-each_one into own [] us s m = absurd (Memᴰ.not-nil m)
-each_one into own (y ∷ xs) [] s m = absurd s
-each_one {X} into own (y ∷ xs) (u ∷ us) s m =
-    ⊎_elim (λ e. (u, subst (λ (z : X). shadow (own (into z) (u ∷ []))) (sym e) s.0)) (λ r. each_one into own xs us s.1 r) (Memᴰ.cases_cons m)
+each_one : {X : Type 0} (own : X → List Val → Fml) (xs : List X) (us : List Val) → shadow (each X own xs us)
+    → {x : X} → x among xs → (u : Val) × shadow (own x (u ∷ []))
+each_one own [] us s m = absurd (Memᴰ.not-nil m)
+each_one own (y ∷ xs) [] s m = absurd s
+each_one {X} own (y ∷ xs) (u ∷ us) s m =
+    ⊎_elim (λ e. (u, subst (λ (z : X). shadow (own z (u ∷ []))) (sym e) s.0)) (λ r. each_one own xs us s.1 r) (Memᴰ.cases_cons m)
 
 entry_typed : (e : Entry) (vs : List Val) → Is entry.the_row e vs → Typed e.contact
 entry_typed e vs s =
@@ -64,7 +64,7 @@ module _ (t : RoutingTable) (vs : List Val) (s : Is table.the_row t vs) where
   table_typed h e m =
       let long : length t.entries ≡ 128 = search (rules, length_mapped) in
       let i : e among t.entries = among_take t.count t.entries (subst (λ (l : List Entry). e among l) (firsts_take no_entry t.count t.entries (omega arith)) m) in
-      let one = each_one (entry.the_type).to (entry.the_field).row.own_val t.entries _ s.1.1.1.1.0.1.1 i in
+      let one = each_one (entry.the_row).own_val t.entries _ s.1.1.1.1.0.1.1 i in
       entry_typed e (one.0 ∷ []) one.1
 
   module _ (g : good (view t) ≡ true) where

@@ -9,3 +9,4 @@ pub mod Counts
 pub mod Keeps
 pub mod Splits
 pub mod Mapped
+pub mod Misfits

@@ -164,6 +164,7 @@ fn blank() -> Contact
 }
 
 // What a call wants to know of a table and an id.
+#[tactic(auto, using(crate::proofs::Kept::count_over, crate::proofs::Kept::waiting_over))]
 pub fn survey(table: RoutingTable, id: [u8; 32]) -> Facts
     ensures { result ≡ survey_of (view table) id }
 {

@@ -28,6 +28,7 @@ pub(crate) fn sound(table: RoutingTable) -> bool
 }
 
 // Whether each entry has at most three failures, and a record that fits.
+#[tactic(auto, using(crate::proofs::Misfits::entry_fails))]
 fn sound_entries(table: RoutingTable) -> bool
     requires { table.count ≤ 128 }
     ensures { result ≡ every sound_entry (view table).entries }
@@ -85,6 +86,7 @@ fn none_over(most: usize, logs: &[u16]) -> bool
 }
 
 // Whether each log distance of the replacements has 16 entries.
+#[tactic(auto, using(crate::proofs::Misfits::log_fails))]
 fn each_full<'a>(entries: &'a [u16], replacements: &'a [u16]) -> bool
     ensures { result ≡ each_full entries.now replacements.now }
 {

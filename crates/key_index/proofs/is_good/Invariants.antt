@@ -1,5 +1,5 @@
--- `key_index::is_good` meets its contract. The invariant is `Scan` (`proofs/Scan.antt`); a turn that has read its key and distance is a
--- `Turn`, whose laws answer the returns and the next turn. The measure is what is left of the count. Assumes nothing.
+-- `key_index::is_good` meets its contract. The invariant is `Scan` (`proofs/Scan.antt`), whose laws on a turn, named in the
+-- source, answer the other returns and the next turn. The measure is what is left of the count. Assumes nothing.
 use Prim.Native.Nat.{◌-◌}
 use Rattle.key_index.specs.View.{key_limit}
 use Rattle.key_index.proofs.Scan.{Scan}

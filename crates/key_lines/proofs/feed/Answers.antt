@@ -4,7 +4,6 @@ use Prim.Native.Nat.{ℕ, ◌<◌}
 use mathlib.Core.List.{List, ◌++◌, append-nil}
 use mathlib.Core.Path.{◌≡◌, ◌∙◌, ap, sym, subst}
 use mathlib.Core.Bool.{◌||◌, not}
-use mathlib.Core.Logic.{⊎_elim}
 use lib.ListN.{length, get_or, take, length-set}
 use lib.Seq.{take_all}
 use borrow.Author.Rules.{rules}
@@ -13,6 +12,7 @@ use Rattle.key_lines.specs.State.{Begun}
 use Rattle.key_lines.specs.declared.Line.{Line}
 use Rattle.key_lines.proofs.States.{stored, passed, next_of}
 use Rattle.key_lines.proofs.feed.Goals as goal
+use Rattle.key_lines.proofs.feed.Goals.{then-len-lt18, else-len-lt18}
 
 pub loop-i-init : goal.loop-i-init
 loop-i-init c =
@@ -27,16 +27,16 @@ loop-i-preserved c =
     let next : Line = record { first = c.if-len-lt18.first; len = c.longer-len.result; bad = c.worse-bad.result } in (
       search rules,
       search rules,
-      ⊎_elim (λ w. ap length w.1 ∙ simp length-set (search rules)) (λ w. ap length w.1 ∙ search rules) c.if-len-lt18.branch,
+      elim c.if-len-lt18.branch [ then-len-lt18 w ↦ ap length w.first-is ∙ simp length-set (search rules) | else-len-lt18 w ↦ ap length w.first-is ∙ search rules ],
       λ text b.
           let old = c.loop-i.invariant.3 text b in
           let grow = c.longer-len.ensures in
           let bad : c.worse-bad.result ≡ (c.loop-i.bad || not (is_digit (value_of (get_or part i 0)))) = search rules in
           subst (Begun next) (sym (next_of text part i small))
-          (⊎_elim
-          (λ w. stored _ _ _ (text ++ take i part) old (get_or part i 0) _ w.0.taken w.1 _ grow _ bad)
-          (λ w. passed _ _ _ (text ++ take i part) old (get_or part i 0) _ w.0.left w.1 _ grow _ bad)
-          c.if-len-lt18.branch),
+          (elim c.if-len-lt18.branch [
+            | then-len-lt18 w ↦ stored _ _ _ (text ++ take i part) old (get_or part i 0) _ w.if-len-lt18.true w.first-is _ grow _ bad
+            | else-len-lt18 w ↦ passed _ _ _ (text ++ take i part) old (get_or part i 0) _ w.if-len-lt18.false w.first-is _ grow _ bad
+          ]),
     )
 
 pub returns : goal.returns

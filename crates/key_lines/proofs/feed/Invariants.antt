@@ -12,8 +12,8 @@ invariant-loop-i l =
     (l.i ≤ length l.part)
     × (l.i-end ≡ length l.part)
     × (length l.first ≡ 18)
-    × ((text : List ℕ) → Begun (record { l.first = l.initial.first; l.len = l.initial.len; l.bad = l.initial.bad }) text
-    → Begun (record { l.first = l.first; l.len = l.len; l.bad = l.bad }) (text ++ take l.i l.part))
+    × ((text : List ℕ) → Begun (record { first = l.initial.first; len = l.initial.len; bad = l.initial.bad }) text
+    → Begun (record { first = l.first; len = l.len; bad = l.bad }) (text ++ take l.i l.part))
 
 abbrev pub decreases-loop-i : goal.decreases-loop-i
 decreases-loop-i l = length l.part - l.i

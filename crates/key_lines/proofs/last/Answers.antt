@@ -1,5 +1,6 @@
 -- `key_lines::last` meets its contract: the length is 0 just where the line has no characters.
 -- Assumes nothing.
+use mathlib.Core.List.{[]}
 use mathlib.Core.Path.{◌∙◌, ap, refl}
 use Rattle.key_lines.specs.Lines.{padded}
 use Rattle.key_lines.proofs.Answers.{padded_is, last_none, last_some}

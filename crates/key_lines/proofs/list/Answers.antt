@@ -26,14 +26,14 @@ pub slice_bounds-put-end : goal.slice_bounds-put-end
 slice_bounds-put-end c =
     let printed = c.finish-printed in
     let long : length printed.result.text ≡ 65 = search rules in
-    sym (length-take-le printed.result.len printed.result.text (omega (arith, printed.ensures.1)))
+    sym (length-take-le printed.result.len printed.result.text (omega (arith, printed.ensures.len_bound)))
 
 pub loop-at-preserved-then-end-input : goal.loop-at-preserved-then-end-input
 loop-at-preserved-then-end-input c =
     let finished = c.finish-printed in
     ended _ _ _ _ _ _ _ c.loop-at.invariant _ c.line_end-end.ensures _ c.feed-line.ensures c.if-end-input.true
     (omega (arith, c.if-out-written-lt65.false, c.loop-at.invariant))
-    finished.result.text finished.result.len (search rules) finished.ensures.1 (λ text b. padded_front _ _ (finished.ensures.0 text b)) _
+    finished.result.text finished.result.len (search rules) finished.ensures.len_bound (λ text b. padded_front _ _ (finished.ensures.by_index text b)) _
     c.put.ensures.out_after (search rules) _ refl _ c.fresh-line.ensures
 
 pub loop-at-preserved : goal.loop-at-preserved

@@ -1,32 +1,21 @@
 -- `reply::agreeing` meets its contract. Assumes nothing.
-use mathlib.Core.Path.{◌≡◌}
 use borrow.Author.Tests.{not-true, not-false}
 use Rattle.key_index.specs.View as keys
-use Rattle.key_index.specs.Good.{good}
 use Rattle.routing_table.specs.View.{view}
 use Rattle.reply.proofs.Requests.{agree_index, agree_table, agree_own}
 use borrow.Author.Rules.{rules}
 use Rattle.reply.proofs.agreeing.Goals as goal
-use Rattle.reply.proofs.agreeing.Goals.{After-is_good, Start}
-
--- the parts as an index
-abbrev held : Start → keys.View
-held c = keys.view_of c.args.node c.args.cap c.args.listed.now c.args.count
-
--- what the test of the index's rules says
-tested : (c : After-is_good) → c.is_good.result ≡ good keys.key_limit (held c.before.before)
-tested c = c.is_good.ensures
 
 pub returns-then-not-is_good : goal.returns-then-not-is_good
 returns-then-not-is_good c =
-    agree_index keys.key_limit (held (goal.at.returns-then-not-is_good c).Start) (view c.args.table) c.is_good.result (tested (goal.at.returns-then-not-is_good c).After-is_good) (search (rules, not-true)) _ (search rules)
+    agree_index keys.key_limit (keys.view_of c.args.node c.args.cap c.args.listed.now c.args.count) (view c.args.table) c.is_good.result c.is_good.ensures (search (rules, not-true)) _ (search rules)
 
 pub returns-then-not-told : goal.returns-then-not-told
 returns-then-not-told c =
     let s = c.survey-told in
-    agree_table keys.key_limit (held (goal.at.returns-then-not-told c).Start) (view c.args.table) c.is_good.result (tested (goal.at.returns-then-not-told c).After-is_good) (search (rules, not-false)) s.result s.ensures (search (rules, not-true)) _ (search rules)
+    agree_table keys.key_limit (keys.view_of c.args.node c.args.cap c.args.listed.now c.args.count) (view c.args.table) c.is_good.result c.is_good.ensures (search (rules, not-false)) s.result s.ensures (search (rules, not-true)) _ (search rules)
 
 pub returns : goal.returns
 returns c =
     let s = c.survey-told in
-    agree_own keys.key_limit (held (goal.at.returns c).Start) (view c.args.table) c.is_good.result (tested (goal.at.returns c).After-is_good) (search (rules, not-false)) s.result s.ensures (search (rules, not-false)) _ (search rules)
+    agree_own keys.key_limit (keys.view_of c.args.node c.args.cap c.args.listed.now c.args.count) (view c.args.table) c.is_good.result c.is_good.ensures (search (rules, not-false)) s.result s.ensures (search (rules, not-false)) _ (search rules)

@@ -1,14 +1,12 @@
 -- `groups::first` meets its contract. The invariant: those passed are taken, and the size is that of a message with them (`Taking` of
 -- `proofs/Taking.antt`). The measure is what is left of the lengths. Assumes nothing.
-use Prim.Native.Nat.{◌+◌, ◌≤◌, ◌<◌}
 use native.Mathlib.Omega.{arith}
 use mathlib.Core.Path.{refl}
-use mathlib.Core.Logic.{◌⊎◌, inl, inr, ⊎_elim}
-use lib.ListN.{get_or}
-use borrow.Author.Tests.{ltb-true, ltb-false}
+use mathlib.Core.Logic.{inl, inr}
+use borrow.Author.Tests.{ltb-false}
 use Rattle.reply.proofs.Taking.{taking_start, taking_end, taking_stop, taking_next}
 use Rattle.reply.proofs.groups.first.Goals as goal
-use Rattle.reply.proofs.groups.first.Goals.{Joined-then-i-ge32}
+use Rattle.reply.proofs.groups.first.Goals.{then-i-ge32-via-then-i-ge32, then-i-ge32-via-else-i-ge32+then-size-lens-gt1280}
 
 pub loop-i-init : goal.loop-i-init
 loop-i-init c = taking_start _ _ (omega arith)
@@ -22,13 +20,9 @@ overflow_add-size c =
     omega (arith, c.requires.1 c.loop-i.i (omega arith), c.loop-i.invariant.small)
 
 -- the next one does not fit: there are 32, or its bytes are too many
-way : (c : Joined-then-i-ge32)
-    → (32 ≤ c.loop-i.i) ⊎ (1280 < c.loop-i.size + (4 + get_or c.args.lens.now c.loop-i.i 0))
-way c = ⊎_elim (λ w. inl (omega arith)) (λ w. inr (omega (arith, ltb-true))) c.then-i-ge32.branch
-
 pub returns-then-i-ge32 : goal.returns-then-i-ge32
 returns-then-i-ge32 c =
-    taking_stop _ _ _ _ c.loop-i.invariant (omega arith) _ refl (way c) _ refl refl
+    taking_stop _ _ _ _ c.loop-i.invariant (omega arith) _ refl (elim c.then-i-ge32.branch [ then-i-ge32-via-then-i-ge32 w ↦ inl w.if-i-ge32.true | then-i-ge32-via-else-i-ge32+then-size-lens-gt1280 w ↦ inr (omega arith) ]) _ refl refl
 
 pub overflow_add-size-in-loop-i : goal.overflow_add-size-in-loop-i
 overflow_add-size-in-loop-i c =

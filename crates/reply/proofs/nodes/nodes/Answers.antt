@@ -2,7 +2,6 @@
 use mathlib.Core.Path.{◌≡◌, sym, ap, ◌∙◌}
 use mathlib.Core.List.{◌∷◌}
 use borrow.Author.Rules.{rules}
-use borrow.Author.Tests.{not-true, not-false}
 use Rattle.refusal.specs.declared.Refusal.TheVariants.{Unusable}
 use Rattle.routing_table.specs.View.{view}
 use Rattle.replies.specs.Chosen.{once}
@@ -23,7 +22,7 @@ own_sends c =
     let fits = c.record_fits in
     let own = c.args.own.now in
     let tested : fits.result ≡ sendable own = search rules in
-    sendable_is own (sym tested ∙ not-false fits.result c.if-not-record_fits.false-raw)
+    sendable_is own (sym tested ∙ c.if-not-record_fits.false)
 
 own_holds : (c : After-asked-then-asked)
     → Holds (once (c.args.own.now ∷ asked_records (view c.args.table) c.args.own.now c.args.distances.now)) c.asked-then-asked.result
@@ -35,14 +34,14 @@ holds : (c : After-asked-2)
     → Holds (once (asked_records (view c.args.table) c.args.own.now c.args.distances.now)) c.asked-2.result
 holds c =
     let v = view c.args.table in
-    copied _ _ c.good.0 c.requires v.own (is_asked v c.args.distances.now) c.asked-2.result c.asked-2.ensures
+    copied _ _ c.well_formed.0 c.requires v.own (is_asked v c.args.distances.now) c.asked-2.result c.asked-2.ensures
 
 pub returns-then-not-record_fits : goal.returns-then-not-record_fits
 returns-then-not-record_fits c =
     let fits = c.record_fits in
     let tested : fits.result ≡ sendable c.args.own.now = search rules in
     refused_replies {right = Unusable} c.args.out.now c.refused.ensures (search rules)
-    (ap (in_room _) (nodes_refused _ c.args.own.now _ _ c.asked.ensures c.if-asked.true (sym tested ∙ not-true fits.result c.if-not-record_fits.true-raw)))
+    (ap (in_room _) (nodes_refused _ c.args.own.now _ _ c.asked.ensures c.if-asked.true (sym tested ∙ c.if-not-record_fits.true)))
 
 pub send-requires : goal.send-requires
 send-requires c = holds_found _ _ (own_holds (goal.at.send-requires c).After-asked-then-asked) (with_own _ _ (own_sends (goal.at.send-requires c).After-asked-then-asked) (records_send _ _ c.well_formed.0 c.requires _ _ c.asked-then-asked.result))

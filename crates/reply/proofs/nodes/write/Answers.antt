@@ -15,7 +15,7 @@ use Rattle.reply.proofs.Taking.{of_length}
 use Rattle.reply.proofs.Spreading.{small_left, small_of, part_inside, Next, next}
 use Rattle.reply.proofs.Sending.{sending_start, sending_at, sending_next, sending_end, few_messages, sending_length, group_room, one_written}
 use Rattle.reply.proofs.nodes.write.Goals as goal
-use Rattle.reply.proofs.nodes.write.Goals.{After-struct_known-1, In-loop-i}
+use Rattle.reply.proofs.nodes.write.Goals.{After-first-group, In-loop-i}
 
 abbrev records : In-loop-i → List (List ℕ)
 records c = lent_in c.args.bytes.now c.args.starts.now c.args.lens.now
@@ -32,19 +32,25 @@ inside c = omega (arith, c.loop-i.invariant.inside, of_length c.args.lens.now (r
 few : (c : In-loop-i) → c.args.count ≤ 33
 few c = omega (arith, c.requires.number, few_messages (records c) c.requires.fair)
 
-upto : (c : After-struct_known-1)
-    → c.loop-i.from + c.first-group.result.taken ≤ length c.args.lens.now
+upto : (c : After-first-group) → c.loop-i.from + c.first-group.result.taken ≤ length c.args.lens.now
 upto c =
-    part_inside c.args.lens.now c.loop-i.from c.first-group.result.taken (inside c.before.before.before) c.first-group.ensures.inside
+    let a = c.args in
+    let r = lent_in a.bytes.now a.starts.now a.lens.now in
+    let l : Lends a.bytes.now a.starts.now a.lens.now r = lent_lends _ _ _ _ c.requires.lends in
+    let i : c.loop-i.from ≤ length a.lens.now = omega (arith, c.loop-i.invariant.inside, of_length a.lens.now r (lends_lengths l)) in
+    part_inside a.lens.now c.loop-i.from c.first-group.result.taken i c.first-group.ensures.inside
 
 less : (c : In-loop-i) → c.loop-i.i < length (groups nodes_fit (records c))
 less c = omega (arith, c.requires.number)
 
 -- the group of this turn
-turned : (c : After-struct_known-1) → Next (records c.before.before.before) c.loop-i.from c.first-group.result
+turned : (c : After-first-group) → Next (lent_in c.args.bytes.now c.args.starts.now c.args.lens.now) c.loop-i.from c.first-group.result
 turned c =
-    let lens = c.args.lens.now in
-    next lens c.loop-i.from _ (part_rest lens c.loop-i.from) _ (omega arith) _ c.first-group.ensures (records c.before.before.before) (lends_lengths (lends c.before.before.before))
+    let a = c.args in
+    let r = lent_in a.bytes.now a.starts.now a.lens.now in
+    let l : Lends a.bytes.now a.starts.now a.lens.now r = lent_lends _ _ _ _ c.requires.lends in
+    let i : c.loop-i.from ≤ length a.lens.now = omega (arith, c.loop-i.invariant.inside, of_length a.lens.now r (lends_lengths l)) in
+    next a.lens.now c.loop-i.from _ (part_rest a.lens.now c.loop-i.from) _ (omega arith) _ c.first-group.ensures r (lends_lengths l)
 
 pub loop-i-init : goal.loop-i-init
 loop-i-init c = sending_start _ _
@@ -78,7 +84,7 @@ pub slice_bounds-write_found_nodes-start : goal.slice_bounds-write_found_nodes-s
 slice_bounds-write_found_nodes-start c = omega arith
 
 pub slice_bounds-write_found_nodes-end : goal.slice_bounds-write_found_nodes-end
-slice_bounds-write_found_nodes-end c = let n = upto c in let e = lends_even (lends (goal.at.slice_bounds-write_found_nodes-end c).In-loop-i) in search rules
+slice_bounds-write_found_nodes-end c = let n = upto (goal.at.slice_bounds-write_found_nodes-end c).After-first-group in let e = lends_even (lends (goal.at.slice_bounds-write_found_nodes-end c).In-loop-i) in search rules
 
 pub offset_bounds-lens-from-in-loop-i : goal.offset_bounds-lens-from-in-loop-i
 offset_bounds-lens-from-in-loop-i c = let i = inside (goal.at.offset_bounds-lens-from-in-loop-i c).In-loop-i in search rules
@@ -90,7 +96,7 @@ pub slice_bounds-write_found_nodes-start-in-loop-i : goal.slice_bounds-write_fou
 slice_bounds-write_found_nodes-start-in-loop-i c = omega arith
 
 pub slice_bounds-write_found_nodes-end-in-loop-i : goal.slice_bounds-write_found_nodes-end-in-loop-i
-slice_bounds-write_found_nodes-end-in-loop-i c = let n = upto (goal.at.slice_bounds-write_found_nodes-end-in-loop-i c).After-struct_known-1 in search rules
+slice_bounds-write_found_nodes-end-in-loop-i c = let n = upto (goal.at.slice_bounds-write_found_nodes-end-in-loop-i c).After-first-group in search rules
 
 pub slice_bounds-write_found_nodes-count-in-loop-i-2 : goal.slice_bounds-write_found_nodes-count-in-loop-i-2
 slice_bounds-write_found_nodes-count-in-loop-i-2 c = sending_at _ _ _ _ _ _ _ c.loop-i.invariant
@@ -109,7 +115,7 @@ bounds-sizes-i c = let n = few (goal.at.bounds-sizes-i c).In-loop-i in omega ari
 
 pub overflow_add-at : goal.overflow_add-at
 overflow_add-at c =
-    let room = group_room _ c.requires.fair _ _ _ _ _ _ c.loop-i.invariant (less (goal.at.overflow_add-at c).In-loop-i) _ (turned (goal.at.overflow_add-at c).After-struct_known-1) c.requires.room in
+    let room = group_room _ c.requires.fair _ _ _ _ _ _ c.loop-i.invariant (less (goal.at.overflow_add-at c).In-loop-i) _ (turned (goal.at.overflow_add-at c).After-first-group) c.requires.room in
     omega (arith, c.well_formed)
 
 pub overflow_step-i : goal.overflow_step-i
@@ -120,9 +126,9 @@ loop-i-smaller c = omega arith
 
 pub loop-i-preserved : goal.loop-i-preserved
 loop-i-preserved c =
-    sending_next _ c.requires.fair _ _ _ _ _ _ c.loop-i.invariant (less (goal.at.loop-i-preserved c).In-loop-i) _ (turned (goal.at.loop-i-preserved c).After-struct_known-1) c.requires.room (few_messages _ c.requires.fair)
+    sending_next _ c.requires.fair _ _ _ _ _ _ c.loop-i.invariant (less (goal.at.loop-i-preserved c).In-loop-i) _ (turned (goal.at.loop-i-preserved c).After-first-group) c.requires.room (few_messages _ c.requires.fair)
     _ _ _ _ _ refl (omega arith) (omega arith) (omega arith)
-    (one_written _ c.requires.fair _ _ _ _ _ _ c.loop-i.invariant (less (goal.at.loop-i-preserved c).In-loop-i) _ (turned (goal.at.loop-i-preserved c).After-struct_known-1) c.requires.room
+    (one_written _ c.requires.fair _ _ _ _ _ _ c.loop-i.invariant (less (goal.at.loop-i-preserved c).In-loop-i) _ (turned (goal.at.loop-i-preserved c).After-first-group) c.requires.room
     c.args.bytes.now c.args.starts.now c.args.lens.now _ c.args.count
     (c.loop-i.from + c.first-group.result.taken - c.loop-i.from) _ (lends (goal.at.loop-i-preserved c).In-loop-i) (omega (arith, c.requires.number)) (omega arith)
     c.write_found_nodes.ensures)

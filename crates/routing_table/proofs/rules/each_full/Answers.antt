@@ -4,17 +4,11 @@ use native.Mathlib.Omega.{arith}
 use mathlib.Core.Path.{sym, ◌∙◌}
 use lib.ListN.{get_or}
 use borrow.Author.Rules.{rules}
-use borrow.Author.Tests.{le-leb, lt-leb}
+use borrow.Author.Tests.{le-leb}
 use Rattle.routing_table.specs.Places.{count_of}
-use Rattle.routing_table.proofs.Passes.{every_fails, every_later, every_end}
+use Rattle.routing_table.proofs.Passes.{every_later, every_end}
 use Rattle.routing_table.proofs.rules.each_full.Invariants.{test}
 use Rattle.routing_table.proofs.rules.each_full.Goals as goal
-
-pub returns-then-count-lt-ENTRIES_EACH : goal.returns-then-count-lt-ENTRIES_EACH
-returns-then-count-lt-ENTRIES_EACH c =
-    let a = c.args in
-    sym (c.loop-i.invariant.2
-    ∙ every_fails (test a.entries.now) 0 a.replacements.now c.loop-i.i (search rules) (lt-leb 16 (count_of (get_or a.replacements.now c.loop-i.i 0) a.entries.now) (omega (arith, c.if-count-lt-ENTRIES_EACH.true, c.count.ensures))))
 
 pub loop-i-preserved : goal.loop-i-preserved
 loop-i-preserved c =
@@ -22,7 +16,7 @@ loop-i-preserved c =
       omega arith,
       c.loop-i.invariant.1,
       c.loop-i.invariant.2
-          ∙ every_later (test a.entries.now) 0 a.replacements.now c.loop-i.i (search rules) (le-leb 16 (count_of (get_or a.replacements.now c.loop-i.i 0) a.entries.now) (omega (arith, c.if-count-lt-ENTRIES_EACH.false, c.count.ensures))),
+          ∙ every_later (test a.entries.now) 0 a.replacements.now c.loop-i.i (search rules) (le-leb 16 (count_of (get_or a.replacements.now c.loop-i.i 0) a.entries.now) (omega (arith, c.count.ensures))),
     )
 
 pub returns : goal.returns

@@ -20,18 +20,11 @@ many_failures e h = rw (lt-leb e.failures 3 h)
 by_record : (e : Entry) → e.failures ≤ 3 → sound_entry e ≡ sized e.contact
 by_record e h = rw (le-leb e.failures 3 h)
 
-pub returns-then-entry-gt-FAILURES : goal.returns-then-entry-gt-FAILURES
-returns-then-entry-gt-FAILURES c =
-    let t = c.args.table in
-    let e = get_or t.entries c.loop-i.i no_entry in
-    sym (c.loop-i.invariant.2
-    ∙ firsts_fail sound_entry no_entry t.count t.entries c.loop-i.i (search rules) (many_failures e (omega (arith, c.if-entry-gt-FAILURES.true))))
-
 pub returns-then-not-record_fits : goal.returns-then-not-record_fits
 returns-then-not-record_fits c =
     let t = c.args.table in
     let e = get_or t.entries c.loop-i.i no_entry in
-    let few : e.failures ≤ 3 = omega (arith, c.if-entry-gt-FAILURES.false) in
+    let few : e.failures ≤ 3 = omega arith in
     let told = sym c.record_fits.ensures ∙ c.if-not-record_fits.true in
     let bad : sized e.contact ≡ false = search rules in
     sym (c.loop-i.invariant.2 ∙ firsts_fail sound_entry no_entry t.count t.entries c.loop-i.i (search rules) (by_record e few ∙ bad))
@@ -40,7 +33,7 @@ pub loop-i-preserved : goal.loop-i-preserved
 loop-i-preserved c =
     let t = c.args.table in
     let e = get_or t.entries c.loop-i.i no_entry in
-    let few : e.failures ≤ 3 = omega (arith, c.if-entry-gt-FAILURES.false) in
+    let few : e.failures ≤ 3 = omega arith in
     let told = sym c.record_fits.ensures ∙ c.if-not-record_fits.false in
     let well : sized e.contact ≡ true = search rules in (
       omega arith,

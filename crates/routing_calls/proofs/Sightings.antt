@@ -12,17 +12,21 @@ use Rattle.distance.specs.Distance.{log_distance_of}
 use Rattle.routing_table.specs.View.{view, entry_ids, replacement_ids, entry_logs, replacement_logs}
 use Rattle.routing_table.specs.Places.{first_place, count_of}
 use Rattle.routing_table.specs.Good.{sized, good}
+use Rattle.routing_table.specs.Survey.{survey_of}
 use Rattle.routing_table.specs.declared.Contact.{Contact}
+use Rattle.routing_table.specs.declared.Facts.{Facts}
 use Rattle.routing_table.specs.declared.RoutingTable.{RoutingTable}
 use Rattle.routing_calls.specs.Change.{entry_of, with_entries}
 use Rattle.routing_calls.specs.Arrays.{entry_put, Put, entry_added, replacement_added}
 use Rattle.routing_calls.specs.Seen.{latest_for, wait_of, newcomer_of, meet_of, seen_of}
 use Rattle.routing_calls.specs.SeenFor.{back, as_entry, as_replacement, given_by, seen_for, meaning_of}
 use Rattle.routing_calls.specs.Helpers.{Latest}
+use Rattle.refusal.specs.declared.Refusal.TheVariants.{TableFull}
+use Rattle.routing_calls.specs.declared.Standing.TheVariants.{Refused}
 use Rattle.routing_calls.specs.declared.SeenAnswer.{SeenAnswer}
 use Rattle.routing_calls.proofs.Views.{Sized, view_put, view_added, view_more}
 use Rattle.routing_table.proofs.Placed.{first_held, first_none}
-use Rattle.routing_calls.proofs.Told.{entry_count, replacement_count, entry_ids_lem, replacement_ids_lem, replacement_logs_lem, good_count}
+use Rattle.routing_calls.proofs.Told.{entry_count, replacement_count, entry_ids_lem, replacement_ids_lem, replacement_logs_lem, good_count, told_facts}
 
 -- a refusal with the number that is due
 said : (t : RoutingTable) {n m : ℕ} → n ≡ m → back (only n) t ≡ back (only m) t
@@ -128,3 +132,13 @@ module _ (t : RoutingTable) (c : Contact) (k : ℕ) (e : k ≡ count_of (log_for
     wait_full n s h =
         let absent = first_none eqb (log_for t c) (replacement_logs (view t)) t.waiting at (replacement_logs_lem t) f h in
         rw (no_room, absent) (said t s)
+
+-- the same, from what the survey tells and what is answered
+module _ (t : RoutingTable) (c : Contact) (f : Facts) (e : f ≡ survey_of (view t) c.id) (g : f.good ≡ true) (r : SeenAnswer) where
+  pub newcomer_waits : 16 ≤ f.entries → meaning_of r ≡ given_by t (wait_of (view t) c (log_for t c))
+      → meaning_of r ≡ given_by t (newcomer_of (view t) c (log_for t c))
+  newcomer_waits h w = w ∙ new_waits t c f.entries (told_facts t c.id f e g).entries h
+
+  pub newcomer_full : f.entries < 16 → 128 ≤ t.count → r ≡ record { standing = Refused TableFull; table = t }
+      → meaning_of r ≡ given_by t (newcomer_of (view t) c (log_for t c))
+  newcomer_full h m is = ap meaning_of is ∙ new_full t c f.entries (told_facts t c.id f e g).entries 21 refl h m

@@ -39,6 +39,7 @@ pub fn seen(table: RoutingTable, contact: Contact) -> SeenAnswer
 }
 
 // A newcomer becomes an entry where its log distance has room.
+#[tactic(auto, using(crate::proofs::Sightings::newcomer_waits, crate::proofs::Sightings::newcomer_full))]
 fn newcomer(table: RoutingTable, contact: Contact, told: Facts) -> SeenAnswer
     requires good_value { told.good ≡ true }
     requires told_value { told ≡ survey_of (view table) contact.id }

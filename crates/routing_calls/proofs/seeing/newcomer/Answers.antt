@@ -7,7 +7,7 @@ use Rattle.routing_calls.specs.SeenFor.{as_entry, meaning_of}
 use Rattle.routing_table.proofs.Mapped.{length_mapped}
 use Rattle.routing_calls.proofs.Views.{Sized}
 use Rattle.routing_calls.proofs.Told.{Told, told_facts}
-use Rattle.routing_calls.proofs.Sightings.{new_waits, new_full, new_entry}
+use Rattle.routing_calls.proofs.Sightings.{new_entry}
 use Rattle.routing_calls.proofs.seeing.newcomer.Goals as goal
 use Rattle.routing_calls.proofs.seeing.newcomer.Goals.{Start}
 
@@ -16,14 +16,6 @@ sized c = record { entries = search (rules, length_mapped); replacements = searc
 
 told : (c : Start) → Told c.args.table c.args.contact.id c.args.told
 told c = told_facts _ _ _ c.requires.told_value c.requires.good_value
-
-pub returns-then-told-ge-ENTRIES_EACH : goal.returns-then-told-ge-ENTRIES_EACH
-returns-then-told-ge-ENTRIES_EACH c = c.waits.ensures ∙ new_waits _ _ _ (told (goal.at.returns-then-told-ge-ENTRIES_EACH c).Start).entries (search rules)
-
-pub returns-then-table-ge-ENTRIES : goal.returns-then-table-ge-ENTRIES
-returns-then-table-ge-ENTRIES c =
-    ap meaning_of c.refused.ensures
-    ∙ new_full _ _ _ (told (goal.at.returns-then-table-ge-ENTRIES c).Start).entries _ (search rules) (search rules) (search rules)
 
 pub returns : goal.returns
 returns c =

@@ -1,5 +1,4 @@
 -- `routing_calls::seeing::waits` meets its contract: each way out is a case of the definition (`proofs/Sightings.antt`). Assumes nothing.
-use Prim.Native.Nat.{◌<◌, ◌≤◌}
 use native.Mathlib.Omega.{arith}
 use mathlib.Core.Path.{ap, ◌∙◌}
 use borrow.Author.Rules.{rules}
@@ -12,17 +11,13 @@ use Rattle.routing_calls.proofs.Views.{Sized}
 use Rattle.routing_calls.proofs.Told.{Told, told_facts, good_waiting}
 use Rattle.routing_calls.proofs.Sightings.{wait_more, wait_latest, wait_full}
 use Rattle.routing_calls.proofs.seeing.waits.Goals as goal
-use Rattle.routing_calls.proofs.seeing.waits.Goals.{Joined-else-told-lt-REPLACEMENTS_EACH, Start}
+use Rattle.routing_calls.proofs.seeing.waits.Goals.{Start}
 
 sized : (c : Start) → Sized c.args.table
 sized c = record { entries = search (rules, length_mapped); replacements = search (rules, length_mapped) }
 
 told : (c : Start) → Told c.args.table c.args.contact.id c.args.told
 told c = told_facts _ _ _ c.requires.told_value c.requires.good_value
-
--- where the test for room failed
-full : (c : Joined-else-told-lt-REPLACEMENTS_EACH) → c.args.told.replacements < 4 → 16 ≤ c.args.table.waiting
-full c h = omega arith
 
 pub returns-then-table-lt-REPLACEMENTS : goal.returns-then-table-lt-REPLACEMENTS
 returns-then-table-lt-REPLACEMENTS c =
@@ -37,9 +32,9 @@ latest-requires c =
 pub returns-then-told-table : goal.returns-then-told-table
 returns-then-told-table c =
     let t = told (goal.at.returns-then-told-table c).Start in
-    wait_latest _ _ _ t.replacements (full (goal.at.returns-then-told-table c).Joined-else-told-lt-REPLACEMENTS_EACH) _ (search rules) _ c.latest.ensures (search rules)
+    wait_latest _ _ _ t.replacements (λ h. omega arith) _ (search rules) _ c.latest.ensures (search rules)
 
 pub returns : goal.returns
 returns c =
     let t = told (goal.at.returns c).Start in
-    ap meaning_of c.refused.ensures ∙ wait_full _ _ _ t.replacements (full (goal.at.returns c).Joined-else-told-lt-REPLACEMENTS_EACH) _ t.oldest _ (search rules) (search rules)
+    ap meaning_of c.refused.ensures ∙ wait_full _ _ _ t.replacements (λ h. omega arith) _ t.oldest _ (search rules) (search rules)

@@ -6,7 +6,7 @@ use lib.ListN.{length}
 use Rattle.content_ids.proofs.list_block.Given as goal
 
 abbrev pub invariant-loop-at : goal.invariant-loop-at
-invariant-loop-at l = (l.at ≤ length l.block) × (length l.out ≡ length l.initial.out)
+invariant-loop-at g l = (l.at ≤ length l.block) × (length l.out ≡ length l.initial.out)
 
 abbrev pub decreases-loop-at : goal.decreases-loop-at
-decreases-loop-at l = length l.block - l.at
+decreases-loop-at g l = length l.block - l.at

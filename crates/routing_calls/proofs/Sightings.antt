@@ -21,7 +21,7 @@ use Rattle.routing_calls.specs.Arrays.{entry_put, Put, entry_added, replacement_
 use Rattle.routing_calls.specs.Seen.{latest_for, wait_of, newcomer_of, meet_of, seen_of}
 use Rattle.routing_calls.specs.SeenFor.{back, as_entry, as_replacement, given_by, seen_for, meaning_of}
 use Rattle.routing_calls.specs.Helpers.{Latest}
-use Rattle.refusal.specs.declared.Refusal.TheVariants.{TableFull}
+use Rattle.refusal.specs.declared.Refusal.TheVariants.{OwnId, TableFull}
 use Rattle.routing_calls.specs.declared.Standing.TheVariants.{Refused}
 use Rattle.routing_calls.specs.declared.SeenAnswer.{SeenAnswer}
 use Rattle.routing_calls.proofs.Views.{Sized, view_put, view_added, view_more}
@@ -142,3 +142,8 @@ module _ (t : RoutingTable) (c : Contact) (f : Facts) (e : f ≡ survey_of (view
   pub newcomer_full : f.entries < 16 → 128 ≤ t.count → r ≡ record { standing = Refused TableFull; table = t }
       → meaning_of r ≡ given_by t (newcomer_of (view t) c (log_for t c))
   newcomer_full h m is = ap meaning_of is ∙ new_full t c f.entries (told_facts t c.id f e g).entries 21 refl h m
+
+  pub seen_own : sized c ≡ true → f.own ≡ true → r ≡ record { standing = Refused OwnId; table = t } → meaning_of r ≡ seen_for t c
+  seen_own fit own is =
+      let told = told_facts t c.id f e g in
+      ap meaning_of is ∙ sight_own t c 20 refl told.kept fit (sym told.own ∙ own)

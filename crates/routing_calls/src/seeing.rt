@@ -15,6 +15,7 @@ use routing_table::{
 };
 
 // Takes a sighting of any contact: an entry or a replacement gets all its fields anew, a newcomer becomes one where there is room.
+#[tactic(auto, using(crate::proofs::Sightings::seen_own))]
 pub fn seen(table: RoutingTable, contact: Contact) -> SeenAnswer
     ensures { meaning_of result ≡ seen_for table contact }
 {

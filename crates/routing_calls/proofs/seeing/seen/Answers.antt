@@ -10,7 +10,7 @@ use Rattle.routing_calls.specs.SeenFor.{meaning_of}
 use Rattle.routing_table.proofs.Mapped.{length_mapped}
 use Rattle.routing_calls.proofs.Views.{Sized}
 use Rattle.routing_calls.proofs.Told.{Told, told_facts, good_count, good_waiting}
-use Rattle.routing_calls.proofs.Sightings.{sight_bad, sight_record, sight_own, sight_entry, sight_replacement, sight_newcomer}
+use Rattle.routing_calls.proofs.Sightings.{sight_bad, sight_record, sight_entry, sight_replacement, sight_newcomer}
 use Rattle.routing_calls.proofs.seeing.seen.Goals as goal
 use Rattle.routing_calls.proofs.seeing.seen.Goals.{Else-not-record_fits, Else-not-told, Start}
 
@@ -37,11 +37,6 @@ returns-then-not-record_fits c =
     let e = sym c.record_fits.ensures ∙ c.if-not-record_fits.true in
     let bad : sized c.args.contact ≡ false = search rules in
     ap meaning_of c.refused-then-not-record_fits.ensures ∙ sight_record _ _ _ (search rules) (told (goal.at.returns-then-not-record_fits c).Else-not-told).kept bad
-
-pub returns-then-told : goal.returns-then-told
-returns-then-told c =
-    let t = told (goal.at.returns-then-told c).Else-not-told in
-    ap meaning_of c.refused-then-told.ensures ∙ sight_own _ _ _ (search rules) t.kept (fits (goal.at.returns-then-told c).Else-not-record_fits) (sym t.own ∙ search rules)
 
 pub entry_put-requires : goal.entry_put-requires
 entry_put-requires c =

@@ -19,7 +19,7 @@ use Rattle.hexadecimal.proofs.Texts.{pairs_of, bytes_of_pairs, no_bytes_odd, no_
 use Rattle.content_key.specs.Key.{selector_of, block_of, key_of, key_id, content_id_of}
 use Rattle.content_key.proofs.Keys.{key_length}
 use Rattle.content_key.proofs.Ids.{id_length}
-use Rattle.key_lines.specs.Lines.{printed_of, decoded_id, line_of, last_of, padded}
+use Rattle.key_lines.specs.Lines.{printed_of, decoded_id, line_of, padded}
 use Rattle.key_lines.specs.State.{capped, Begun}
 use Rattle.key_lines.specs.declared.Line.{Line}
 use Rattle.key_lines.specs.declared.Printed.{Printed}
@@ -39,23 +39,14 @@ line_some text bytes e = ap (λ (o : Option (List ℕ)). printed_of (decoded_id 
 filled_nine : (bytes : List ℕ) → length bytes ≡ 9 → filled (some bytes) (replicate 9 0) ≡ bytes
 filled_nine bytes h = ap (λ (k : ℕ). cond (leb k 9) (bytes ++ drop k (replicate 9 0)) (replicate 9 0)) h ∙ append-nil bytes
 
--- what is printed for a last line by its length
-none_of : (text : List ℕ) → length text ≡ 0 → [] ≡ last_of text
-none_of [] e = refl
-none_of (c ∷ text) e = absurd (omega arith)
-
-some_of : (text : List ℕ) → (length text ≡ 0 → ⊥) → line_of text ≡ last_of text
-some_of [] n = absurd (n refl)
-some_of (c ∷ text) n = refl
+-- an odd number of characters
+pub odd_text : (text : List ℕ) → capped (length text) % 2 ≡ 1 → line_of text ≡ printed_of (refused 15)
+odd_text text h = line_none text (no_bytes_odd text (sym (parity (capped (length text)) (length text) refl) ∙ h))
 
 module _ (line : Line) (text : List ℕ) (b : Begun line text) where
   -- another character
   pub bad_line_lem : line.bad ≡ true → line_of text ≡ printed_of (refused 15)
   bad_line_lem h = line_none text (no_bytes_other text (not-true (all_digits text) (sym b.digits ∙ h)))
-
-  -- an odd number of characters
-  pub odd_line : line.len % 2 ≡ 1 → line_of text ≡ printed_of (refused 15)
-  odd_line h = line_none text (no_bytes_odd text (sym (parity line.len (length text) b.count) ∙ h))
 
   -- past these tests the text stands for bytes
   pairs : line.bad ≡ false → line.len % 2 ≡ 0 → bytes_of text ≡ some (pairs_of text)
@@ -85,14 +76,6 @@ module _ (line : Line) (text : List ℕ) (b : Begun line text) where
       ∙ sym (ap (λ (t : List ℕ). printed_of (content_id_of (filled_of t (replicate 9 0)))) all
       ∙ ap (λ (o : Option (List ℕ)). printed_of (content_id_of (filled o (replicate 9 0)))) bytes
       ∙ ap (λ (k : List ℕ). printed_of (content_id_of k)) (filled_nine (pairs_of text) nine))
-
-  -- a last line with no characters
-  pub last_none : line.len ≡ 0 → [] ≡ last_of text
-  last_none e = none_of text (short line.len (length text) b.count (omega arith) ∙ e)
-
-  -- and one with some
-  pub last_some : (line.len ≡ 0 → ⊥) → line_of text ≡ last_of text
-  last_some n = some_of text (λ e. n (b.count ∙ ap capped e))
 
 -- a line in the array that line feeds fill up
 pub padded_is : (line text : List ℕ) (n : ℕ) → length line ≡ n → text ≡ line ++ replicate (65 - n) 10

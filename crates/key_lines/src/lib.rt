@@ -81,6 +81,7 @@ pub fn list(line: Line, input: &[u8], out: &mut [u8]) -> Listed
 }
 
 // What is printed for a last line that no line feed ends: nothing where it has no characters.
+#[tactic(auto, unfolding(crate::specs::Lines::padded))]
 pub fn last(line: Line) -> Printed
     ensures by_index { (text : List ℕ) → Begun line text → result ≡ padded (last_of text) }
     ensures len_bound { result.len ≤ 65 }
@@ -153,6 +154,7 @@ fn is_digit(c: u8) -> bool
 }
 
 // What is printed for the line.
+#[tactic(auto, using(crate::proofs::Answers::odd_text))]
 fn finish(line: Line) -> Printed
     ensures by_index { (text : List ℕ) → Begun line text → result ≡ padded (line_of text) }
     ensures len_bound { result.len ≤ 65 }

@@ -14,6 +14,10 @@ use Rattle.content_key.specs.Key.{block_of, key_of}
 use Rattle.rlp.specs.Content.{content_of}
 use Rattle.rlp.specs.declared.Payload.{Payload}
 use Rattle.key_index.specs.View.{View}
+use Rattle.key_index.specs.Search.{place_of}
+use Rattle.key_index.specs.declared.Place.TheVariants.{Nothing}
+use Rattle.key_index.proofs.Places.{nothing_held}
+use Rattle.octets.specs.Equal.{same_bytes, holds}
 use Rattle.key_index.specs.Good.{away_from, good, radius_of}
 use Rattle.key_index.specs.Calls.{is_held}
 use Rattle.key_index.specs.declared.KeyIndex.{KeyIndex}
@@ -42,6 +46,10 @@ module _ (limit : ℕ) (v : View) (key : List ℕ) (payload : Payload) where
   pub admit_put : is_held key v ≡ false → leb (away_from v.node key) (be (radius_of limit v)) ≡ true → put_of limit v key payload ≡ admit_of limit v key payload
   unfolding admit_of
   admit_put h w = rw (h, w)
+
+-- where no place was found, the key is not held. The first part says nothing: it shows `grind` the call to match
+pub not_held : (key : List ℕ) (keys : List (List ℕ)) → (holds same_bytes key keys ≡ holds same_bytes key keys) × (place_of key keys ≡ Nothing → holds same_bytes key keys ≡ false)
+not_held key keys = (refl, nothing_held key keys)
 
 -- the number is tested before the content
 module _ (key content : List ℕ) (newest : ℕ) where

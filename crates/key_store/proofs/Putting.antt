@@ -1,13 +1,17 @@
 -- A key put into a flat array gives the keys of the definition: with room left by insertion behind the nearer keys, and in a full array by
 -- the same among all but the last key, which leaves. Assumes nothing.
 use Prim.Native.Nat.{ℕ, suc, ◌+◌, ◌*◌, ◌≤◌, ◌<◌}
+use native.Mathlib.Decide.{dec_lt}
 use native.Mathlib.Nat.{le_of_lt}
 use native.Mathlib.Numerals.{add-one}
 use native.Mathlib.Omega.{arith}
-use mathlib.Core.Path.{◌≡◌, sym, ap, ap₂, subst, ◌∙◌}
+use mathlib.Core.Path.{◌≡◌, refl, sym, ap, ap₂, subst, ◌∙◌}
+use mathlib.Core.Bool.{false}
 use mathlib.Core.List.{List, [], ◌∷◌, ◌++◌}
-use lib.ListN.{length, take, drop, replicate}
+use lib.ListN.{length, get_or, take, drop}
+use borrow.Author.Rules.{rules}
 use borrow.Author.Tests.{leb-true, lt-ltb, le-ltb}
+use Rattle.octets.proofs.Numbers.{bytes_all}
 use Rattle.rlp.specs.declared.Payload.{Payload}
 use Rattle.nearest.specs.Sorted.{◌among◌, distances}
 use Rattle.nearest.specs.Insert.{insert, offer}
@@ -15,12 +19,13 @@ use Rattle.nearest.proofs.Sorted.{distances_front}
 use Rattle.nearest.proofs.Offer.{offer_near}
 use Rattle.key_index.specs.View.{View, view_of, view, chunks, key_at, with_keys}
 use Rattle.key_index.specs.Good.{away_from, last_of}
+use Rattle.key_index.specs.Calls.{is_held}
 use Rattle.key_index.specs.Keys.{NineBytes}
 use Rattle.key_index.specs.declared.KeyIndex.{KeyIndex}
-use Rattle.key_index.proofs.Chunks.{chunks_length, chunks_more, key_at_in}
+use Rattle.key_index.proofs.Chunks.{chunks_length, chunks_more, chunks_nine, key_at_in}
 use Rattle.key_index.proofs.Rules.{good_facts}
 use Rattle.key_store.specs.Store.{stored, evicted, put_of}
-use Rattle.key_store.specs.Answer.{now, without, given_by, evicted_or0}
+use Rattle.key_store.specs.Answer.{without, given_by, evicted_or0}
 use Rattle.key_store.specs.Move.{nearer, key_at_place}
 use Rattle.key_store.specs.Judge.{Fits}
 use Rattle.key_store.specs.Cases.{OfBytes}
@@ -61,17 +66,27 @@ module _ (limit : ℕ) (index : KeyIndex) (key : List ℕ) (o : OfBytes (view in
       let most = nearer_most index.node (away_from index.node key) (chunks index.count index.keys) in
       omega (arith, f.at, chunks_length index.count index.keys)
 
-  -- `from`, `to`, `n`, `keys` and `handed` are what the code has
-  pub room_answer : (payload : Payload) → index.count < limit → 9 * limit ≤ length index.keys → (from to n : ℕ) (keys : List ℕ) (handed : Payload)
-      → keys ≡ key_at_place from to key index.keys → from ≡ p → to ≡ index.count → n ≡ index.count + 1 → handed ≡ payload
-      → (now handed (view_of index.node index.cap keys n) ≡ given_by index (put_of limit (view index) key payload))
-      × (replicate 9 0 ≡ evicted_or0 (put_of limit (view index) key payload))
-  room_answer payload h long from to n keys handed is a b c d =
-      let due = sym (put_room limit (view index) key payload (omega (arith, chunks_length index.count index.keys))) in
-      let held : chunks n keys ≡ insert (away_from index.node) key (chunks index.count index.keys) =
-      ap₂ chunks (c ∙ add-one index.count) (is ∙ ap₂ (λ (i j : ℕ). key_at_place i j key index.keys) a b)
-      ∙ chunks_room index.node key index.keys nine.size index.count p (omega arith) f.at new in
-      (ap₂ (λ (q : Payload) (ks : List (List ℕ)). now q (with_keys (view index) ks)) d held ∙ ap (given_by index) due, ap evicted_or0 due)
+-- with room left the key is inserted, and the index has one key more
+pub room_put : (limit : ℕ) (node cap keys : List ℕ) (count : ℕ) (key : List ℕ) (payload : Payload)
+    → is_held key (view_of node cap keys count) ≡ false → count < limit → 9 * limit ≤ length keys
+    → length node ≡ 32 → ((j : ℕ) → get_or node j 0 < 256) → ((j : ℕ) → get_or keys j 0 < 256)
+    → length key ≡ 9 → ((j : ℕ) → get_or key j 0 < 256)
+    → put_of limit (view_of node cap keys count) key payload
+    ≡ stored payload (view_of node cap (key_at_place (nearer node (away_from node key) (chunks count keys)) count key keys) (count + 1))
+room_put limit node cap keys count key payload out room long n node_bytes keys_bytes nine key_bytes =
+    let v = view_of node cap keys count in
+    let o : OfBytes v = record {
+      size = n;
+      node = bytes_all node node_bytes;
+      each = chunks_nine count keys (omega arith) (bytes_all keys keys_bytes);
+    } in
+    let k : NineBytes key = record { size = nine; bytes = bytes_all key key_bytes } in
+    let p = nearer node (away_from node key) (chunks count keys) in
+    put_room limit v key payload (omega (arith, chunks_length count keys))
+    ∙ ap (λ (ks : List (List ℕ)). stored payload (with_keys v ks))
+    (sym
+    (ap (λ (m : ℕ). chunks m (key_at_place p count key keys)) (add-one count)
+    ∙ chunks_room node key keys nine count p (omega arith) refl (new_distance v key o k out)))
 
 -- a full index, whose last place is `last`
 module _ (last : ℕ) (index : KeyIndex) (key : List ℕ) (o : OfBytes (view index)) (nine : NineBytes key) (p : ℕ)
@@ -126,3 +141,15 @@ module _ (last : ℕ) (index : KeyIndex) (key : List ℕ) (o : OfBytes (view ind
             ∙ ap (given_by index) due,
         gone ∙ ap evicted_or0 due,
       )
+
+-- full or not, the place is no farther than the last one
+pub place_within : (last : ℕ) (index : KeyIndex) (key : List ℕ) → OfBytes (view index) → NineBytes key → (p : ℕ) → Fits (suc last) (view index) key p
+    → 9 * suc last ≤ length index.keys → p ≤ last
+place_within last index key o nine p f long = go (dec_lt index.count (suc last))
+  where
+    go : Dec (index.count < suc last) → p ≤ last
+    go (yes h) = omega (arith, place_most (suc last) index key o nine p f)
+    go (no h) = full_place last index key o nine p f (omega arith) long
+
+-- what a key put in the room left comes to, with what an array of bytes is
+pub ruleset putting = (rules, room_put)

@@ -1,17 +1,15 @@
--- The ways to a verdict on a store call: it is refused with what is due, a key that fits is put at its place, or the verdict was given
--- on a part of the tests. Assumes nothing.
+-- The ways to a verdict on a store call: it is refused with what is due, or the verdict was given on a part of the tests. Assumes nothing.
 use Prim.Native.Nat.{ℕ}
 use native.Mathlib.Omega.{arith}
 use mathlib.Core.Path.{◌≡◌, sym, ap, subst, ◌∙◌}
 use mathlib.Core.List.{List}
 use Rattle.refusal.specs.Says.{says_of}
 use Rattle.refusal.specs.declared.Refusal.{Refusal}
-use Rattle.rlp.specs.declared.Payload.{Payload}
 use Rattle.key_index.specs.View.{View}
-use Rattle.key_store.specs.Store.{Storing, refused, put_of}
-use Rattle.key_store.specs.Judge.{Fits, Says}
+use Rattle.key_store.specs.Store.{Storing, refused}
+use Rattle.key_store.specs.Judge.{Says}
 use Rattle.key_store.specs.declared.Judged.{Judged}
-use Rattle.key_store.specs.declared.Verdict.TheVariants.{Refused, At}
+use Rattle.key_store.specs.declared.Verdict.TheVariants.{Refused}
 
 module _ (limit : ℕ) (v : View) (due : Storing) where
   -- refused
@@ -23,16 +21,6 @@ module _ (limit : ℕ) (v : View) (due : Storing) where
         refuses = λ other q. let same : why ≡ other = cc in sym is ∙ ap (λ (w : Refusal). refused (says_of w)) same;
         puts = λ place payload q. let z : ◌≡◌ {A = ℕ} 0 1 = cc in absurd (omega arith);
         fits = λ place payload q. let z : ◌≡◌ {A = ℕ} 0 1 = cc in absurd (omega arith);
-      }
-
-  -- put at its place
-  pub put_says : (key : List ℕ) (place : ℕ) (payload : Payload) → Fits limit v key place → put_of limit v key payload ≡ due
-      → Says limit v due (record { verdict = At place payload; key = key })
-  put_says key place payload f is =
-      record {
-        refuses = λ why q. let z : ◌≡◌ {A = ℕ} 0 1 = cc in absurd (omega arith);
-        puts = λ other handed q. let same : payload ≡ handed = cc in sym is ∙ ap (put_of limit v key) same;
-        fits = λ other handed q. let same : place ≡ other = cc in subst (Fits limit v key) same f;
       }
 
   -- what comes to the same

@@ -105,6 +105,7 @@ fn judge(
 }
 
 // What a key and its content come to before the index is asked: a block newer than the newest known one is refused, whatever the content is.
+#[tactic(auto, using(crate::proofs::Answers::examine_future, crate::proofs::Answers::examine_known))]
 fn examine(key: [u8; 9], content: &[u8], newest: u64) -> Examined
     ensures { examined_as result ≡ examine_of key content.now newest }
 {
@@ -115,6 +116,7 @@ fn examine(key: [u8; 9], content: &[u8], newest: u64) -> Examined
 }
 
 // A key with acceptable content: refused where it is held or too far, else its place.
+#[tactic(auto, using(crate::proofs::Answers::admit_far, crate::proofs::Answers::admit_put, crate::proofs::Answers::not_held))]
 fn admit(
     node: [u8; 32],
     cap: [u8; 32],
@@ -169,6 +171,7 @@ fn nearer_keys(keys: &[u8], count: usize, node: [u8; 32], far: [u8; 32]) -> usiz
 }
 
 // A key that is not held and within the radius is stored at its place.
+#[tactic(auto, using(crate::proofs::Putting::putting))]
 fn put(index: KeyIndex, place: usize, key: [u8; 9], payload: Payload) -> StoreAnswer
     requires { Fits key_limit (view index) key place }
     ensures result_value { meaning_of result ≡ given_by index (put_of key_limit (view index) key payload) }

@@ -4,7 +4,7 @@ use mathlib.Core.List.{List}
 use mathlib.Core.Path.{◌∙◌, ap, sym}
 use Rattle.content_key.specs.Key.{content_id_of}
 use Rattle.key_lines.specs.Lines.{printed_of, padded}
-use Rattle.key_lines.proofs.Answers.{bad_line_lem, odd_line, wrong_length, nine_line}
+use Rattle.key_lines.proofs.Answers.{bad_line_lem, wrong_length, nine_line}
 use Prim.Native.Nat.{ℕ}
 use borrow.Author.Rules.{rules}
 use Rattle.key_lines.proofs.finish.Goals as goal
@@ -12,10 +12,6 @@ use Rattle.key_lines.proofs.finish.Goals as goal
 pub returns-then-line : goal.returns-then-line
 returns-then-line c =
     record { by_index = λ text b. c.refusal_line.ensures.value ∙ sym (ap padded (bad_line_lem _ text b c.if-line.true)); len_bound = c.refusal_line.ensures.len_bound }
-
-pub returns-then-len-ne0 : goal.returns-then-len-ne0
-returns-then-len-ne0 c =
-    record { by_index = λ text b. c.refusal_line-then-len-ne0.ensures.value ∙ sym (ap padded (odd_line _ text b (search rules))); len_bound = c.refusal_line-then-len-ne0.ensures.len_bound }
 
 pub returns-then-len-ne18 : goal.returns-then-len-ne18
 returns-then-len-ne18 c =

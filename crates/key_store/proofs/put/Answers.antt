@@ -12,7 +12,7 @@ use Rattle.key_index.specs.Keys.{NineBytes}
 use Rattle.key_index.proofs.Chunks.{chunks_length, chunks_nine}
 use Rattle.key_index.proofs.Rules.{good_facts}
 use Rattle.key_store.specs.Cases.{OfBytes}
-use Rattle.key_store.proofs.Putting.{place_most, room_answer, full_place, full_answer}
+use Rattle.key_store.proofs.Putting.{place_most, place_within, full_answer}
 use borrow.Author.Rules.{rules}
 use Rattle.key_store.proofs.put.Goals as goal
 use Rattle.key_store.proofs.put.Goals.{Start}
@@ -46,25 +46,19 @@ pub with_key-requires : goal.with_key-requires
 with_key-requires c =
     let a = c.args in
     let h = place_most key_limit a.index a.key (of_bytes (goal.at.with_key-requires c).Start) (nine (goal.at.with_key-requires c).Start) a.place c.requires in
-    record { from_le_to = (omega arith, omega (arith, c.if-index-lt-LIMIT.true)); len = (size (goal.at.with_key-requires c).Start, refl) }
-
-pub returns-then-index-lt-LIMIT : goal.returns-then-index-lt-LIMIT
-returns-then-index-lt-LIMIT c =
-    let a = c.args in
-    let clauses = room_answer key_limit a.index a.key (of_bytes (goal.at.returns-then-index-lt-LIMIT c).Start) (nine (goal.at.returns-then-index-lt-LIMIT c).Start) a.place c.requires a.payload (omega (arith, c.if-index-lt-LIMIT.true)) (omega (arith, size (goal.at.returns-then-index-lt-LIMIT c).Start)) _ _ _ _ _
-    c.with_key.ensures (omega arith) (omega arith) (omega arith) (search rules) in
-    record { result_value = clauses.0; evicted_value = clauses.1 }
+    record { from_le_to = (omega arith, omega arith); len = (size (goal.at.with_key-requires c).Start, refl) }
 
 pub with_key-requires-2 : goal.with_key-requires-2
 with_key-requires-2 c =
     let a = c.args in
-    let h = full_place (key_limit - 1) a.index a.key (of_bytes (goal.at.with_key-requires-2 c).Start) (nine (goal.at.with_key-requires-2 c).Start) a.place c.requires (omega (arith, c.if-index-lt-LIMIT.false)) (omega (arith, size (goal.at.with_key-requires-2 c).Start)) in
-    record { from_le_to = (omega arith, omega arith); len = (size (goal.at.with_key-requires-2 c).Start, refl) }
+    let start = (goal.at.with_key-requires-2 c).Start in
+    let h = place_within (key_limit - 1) a.index a.key (of_bytes start) (nine start) a.place c.requires (omega (arith, size start)) in
+    record { from_le_to = (omega arith, omega arith); len = (size start, refl) }
 
 pub returns : goal.returns
 returns c =
     let last = c.key_at-last in
     let a = c.args in
-    let clauses = full_answer (key_limit - 1) a.index a.key (of_bytes (goal.at.returns c).Start) (nine (goal.at.returns c).Start) a.place c.requires (omega (arith, c.if-index-lt-LIMIT.false)) (omega (arith, size (goal.at.returns c).Start)) a.payload _ _ _ _ _ _ _
+    let clauses = full_answer (key_limit - 1) a.index a.key (of_bytes (goal.at.returns c).Start) (nine (goal.at.returns c).Start) a.place c.requires (omega arith) (omega (arith, size (goal.at.returns c).Start)) a.payload _ _ _ _ _ _ _
     c.with_key-2.ensures last.ensures (omega arith) (omega arith) (omega arith) (omega arith) (search rules) in
     record { result_value = clauses.0; evicted_value = clauses.1 }

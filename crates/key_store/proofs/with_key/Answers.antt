@@ -16,4 +16,4 @@ returns c =
     let a = c.args in
     let pre = c.requires in
     moved a.old.now _ c.put.new.out a.key _ a.from a.to pre.from_le_to.0
-    (omega (arith, pre.from_le_to.1, pre.len.0)) (nine (goal.at.returns c).Start) pre.len.1 (search rules) (search rules)
+    (omega (arith, pre.from_le_to.1, pre.len.0)) (nine (goal.at.returns c).Start) pre.len.1 c.put.ensures.out_after c.put-2.ensures.out_after

@@ -4,7 +4,6 @@ use native.Mathlib.Omega.{arith}
 use mathlib.Core.Path.{◌≡◌, sym, ◌∙◌}
 use mathlib.Core.Bool.{true}
 use borrow.Author.Rules.{rules}
-use borrow.Author.Tests.{not-true, not-false}
 use Rattle.accumulator.specs.Records.{are_records, record_count}
 use Rattle.epoch_tree.proofs.Answers.{proof_length, proof_nowhere, proof_short, proof_written}
 use Rattle.epoch_tree.proofs.proof.Goals as goal
@@ -12,14 +11,14 @@ use Rattle.epoch_tree.proofs.proof.Goals.{Else-count-position, Else-not-are_reco
 
 -- past the first test the bytes are records
 good : (c : Else-not-are_records) → are_records c.args.records.now ≡ true
-good c = sym c.are_records.ensures ∙ not-false _ c.if-not-are_records.false-raw
+good c = sym c.are_records.ensures ∙ c.if-not-are_records.false
 
 -- past the second there is one at the position
 there : (c : Else-count-position) → let a = c.args in a.position < record_count a.records.now
 there c = omega (arith, c.if-count-position.false)
 
 pub returns-then-not-are_records : goal.returns-then-not-are_records
-returns-then-not-are_records c = proof_length _ _ (sym c.are_records.ensures ∙ not-true _ c.if-not-are_records.true-raw) _ (search rules) _
+returns-then-not-are_records c = proof_length _ _ (sym c.are_records.ensures ∙ c.if-not-are_records.true) _ (search rules) _
 
 pub returns-then-count-position : goal.returns-then-count-position
 returns-then-count-position c = proof_nowhere _ _ (good (goal.at.returns-then-count-position c).Else-not-are_records) (omega (arith, c.if-count-position.true)) _ (search rules) _

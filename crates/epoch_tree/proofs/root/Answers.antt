@@ -2,7 +2,6 @@
 use mathlib.Core.Path.{◌≡◌, sym, ◌∙◌}
 use mathlib.Core.Bool.{true}
 use borrow.Author.Rules.{rules}
-use borrow.Author.Tests.{not-true, not-false}
 use Rattle.accumulator.specs.Records.{are_records}
 use Rattle.epoch_tree.proofs.Nodes.{root_made}
 use Rattle.epoch_tree.proofs.Answers.{root_length, root_short, root_written}
@@ -11,10 +10,10 @@ use Rattle.epoch_tree.proofs.root.Goals.{Else-not-are_records}
 
 -- past the first test the bytes are records
 good : (c : Else-not-are_records) → are_records c.args.records.now ≡ true
-good c = sym c.are_records.ensures ∙ not-false _ c.if-not-are_records.false-raw
+good c = sym c.are_records.ensures ∙ c.if-not-are_records.false
 
 pub returns-then-not-are_records : goal.returns-then-not-are_records
-returns-then-not-are_records c = root_length _ (sym c.are_records.ensures ∙ not-true _ c.if-not-are_records.true-raw) _ (search rules) _
+returns-then-not-are_records c = root_length _ (sym c.are_records.ensures ∙ c.if-not-are_records.true) _ (search rules) _
 
 pub returns-then-out-lt32 : goal.returns-then-out-lt32
 returns-then-out-lt32 c = root_short _ (good (goal.at.returns-then-out-lt32 c).Else-not-are_records) _ (search rules) _ (search rules)

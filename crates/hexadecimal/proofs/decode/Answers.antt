@@ -6,7 +6,6 @@ use mathlib.Core.Bool.{true}
 use mathlib.Core.Option.{some}
 use mathlib.Core.Path.{◌≡◌, sym, ◌∙◌}
 use borrow.Author.Rules.{rules}
-use borrow.Author.Tests.{not-true, not-false}
 use lib.ListN.{length, length-set}
 use Rattle.hexadecimal.specs.Digits.{bytes_of, all_digits}
 use Rattle.hexadecimal.proofs.Texts.{pairs_of, bytes_of_pairs, no_bytes_other, no_bytes_odd}
@@ -16,7 +15,7 @@ use Rattle.hexadecimal.proofs.decode.Goals.{Else-not-all_digits}
 
 -- past the second test all characters are digits
 all : (c : Else-not-all_digits) → all_digits c.args.text.now ≡ true
-all c = sym c.all_digits.ensures ∙ not-false _ c.if-not-all_digits.false-raw
+all c = sym c.all_digits.ensures ∙ c.if-not-all_digits.false
 
 -- so the text stands for bytes
 bytes : (c : Else-not-all_digits)
@@ -32,7 +31,7 @@ returns-then-text-ne0 c =
 pub returns-then-not-all_digits : goal.returns-then-not-all_digits
 returns-then-not-all_digits c =
     let a = c.args in
-    let other = sym c.all_digits.ensures ∙ not-true _ c.if-not-all_digits.true-raw in
+    let other = sym c.all_digits.ensures ∙ c.if-not-all_digits.true in
     let clauses = not_hex a.text.now a.out.now (no_bytes_other a.text.now other) in
     record { value = clauses.0; out_after = clauses.1 }
 

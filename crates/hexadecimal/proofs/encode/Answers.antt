@@ -29,7 +29,7 @@ loop-i-init c =
     (search rules, search rules, search rules, search rules, paste-zero a.out.now a.at (text_of a.bytes.now))
 
 pub glyph-requires : goal.glyph-requires
-glyph-requires c = omega (arith, c.shared_slice_known-in-loop-i-1.given c.loop-i.i)
+glyph-requires c = omega (arith, c.type_inv.bytes c.loop-i.i)
 
 pub bounds-out-at-in-loop-i : goal.bounds-out-at-in-loop-i
 bounds-out-at-in-loop-i c = simp length-set (omega arith)

@@ -25,10 +25,10 @@ returns-then-first-le247 c =
     due Whole _ (place 1 (get_or s 0 0 - 192)) (sym (first_short s (search rules) (search rules))) (ap₂ place (search rules) (search rules))
 
 pub overflow_cast-first : goal.overflow_cast-first
-overflow_cast-first c = omega (arith, c.shared_slice_known-2-1.given 0)
+overflow_cast-first c = omega (arith, c.type_inv.content 0)
 
 pub long_header-requires : goal.long_header-requires
-long_header-requires c = omega (arith, c.shared_slice_known-2-1.given 0)
+long_header-requires c = omega (arith, c.type_inv.content 0)
 
 pub returns : goal.returns
 returns c =

@@ -17,16 +17,16 @@ pub overflow_mul-n : goal.overflow_mul-n
 overflow_mul-n c = omega (arith, more_fits c.loop-i.n 0 c.loop-i.i (omega arith) (omega arith) (omega arith))
 
 pub overflow_cast-n : goal.overflow_cast-n
-overflow_cast-n c = omega (arith, c.shared_slice_known-1.given c.loop-i.i)
+overflow_cast-n c = omega (arith, c.type_inv.s c.loop-i.i)
 
 pub overflow_add-n : goal.overflow_add-n
 overflow_add-n c =
-    let b = c.shared_slice_known-1.given c.loop-i.i in
+    let b = c.type_inv.s c.loop-i.i in
     record { fits = more_fits c.loop-i.n (get_or c.args.s.now c.loop-i.i 0) c.loop-i.i (omega arith) (omega arith) (omega arith) }
 
 pub loop-i-preserved : goal.loop-i-preserved
 loop-i-preserved c =
-    let b = c.shared_slice_known-1.given c.loop-i.i in
+    let b = c.type_inv.s c.loop-i.i in
     let s = c.args.s.now in (
       search rules,
       more_lt c.loop-i.n (get_or s c.loop-i.i 0) c.loop-i.i (omega arith) (omega arith),

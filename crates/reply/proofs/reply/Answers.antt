@@ -42,7 +42,7 @@ pub answered-requires : goal.answered-requires
 answered-requires c =
     let a = c.args in
     let g = c.agreeing in
-    table_good keys.key_limit (keys.view a.index) (view a.table) (sym g.ensures ∙ not-false g.result c.if-not-agreeing.false-raw)
+    table_good keys.key_limit (keys.view a.index) (view a.table) (sym g.ensures ∙ c.if-not-agreeing.false)
 
 pub returns : goal.returns
 returns c =

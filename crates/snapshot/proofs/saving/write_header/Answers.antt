@@ -3,13 +3,6 @@ use Rattle.snapshot.proofs.Writing.{header_placed}
 use borrow.Author.Rules.{rules}
 use Rattle.snapshot.proofs.saving.write_header.Goals as goal
 
-pub shape_of-out : goal.shape_of-out
-shape_of-out c =
-    let a = c.args in
-    (header_placed a.node a.cap a.count (search rules) (search rules) (search rules) a.out.now (search rules)
-    c.encode.ensures.out_after
-    c.encode-2.ensures.out_after c.encode-3.ensures.out_after c.encode-4.ensures.out_after).long
-
 pub returns : goal.returns
 returns c =
     let a = c.args in

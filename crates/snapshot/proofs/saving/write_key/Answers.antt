@@ -3,11 +3,6 @@ use Rattle.snapshot.proofs.Writing.{key_placed}
 use borrow.Author.Rules.{rules}
 use Rattle.snapshot.proofs.saving.write_key.Goals as goal
 
-pub shape_of-out : goal.shape_of-out
-shape_of-out c =
-    let a = c.args in
-    (key_placed a.key (search rules) a.out.now a.at (search rules) c.encode.ensures.out_after c.encode-2.ensures.out_after).long
-
 pub returns : goal.returns
 returns c =
     let a = c.args in

@@ -5,7 +5,7 @@ use lib.ListN.{length}
 use Rattle.console.proofs.read_block.Given as goal
 
 abbrev pub invariant-loop-at : goal.invariant-loop-at
-invariant-loop-at l = (l.at ≤ length l.block) × (length l.line ≡ length l.initial.line) × (length l.lists ≡ length l.initial.lists) × (length l.data ≡ length l.initial.data) × (length l.spare ≡ length l.initial.spare) × (length l.out ≡ length l.initial.out)
+invariant-loop-at g l = (l.at ≤ length l.block) × (length l.line ≡ length l.initial.line) × (length l.lists ≡ length l.initial.lists) × (length l.data ≡ length l.initial.data) × (length l.spare ≡ length l.initial.spare) × (length l.out ≡ length l.initial.out)
 
 abbrev pub decreases-loop-at : goal.decreases-loop-at
-decreases-loop-at l = length l.block - l.at
+decreases-loop-at g l = length l.block - l.at

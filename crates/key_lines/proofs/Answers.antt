@@ -1,4 +1,4 @@
--- What is printed for a line, by what its state says: the tests of `finish` and of `last`, in their order.
+-- What is printed for a line, by what its state says: the tests of `finish`, in their order.
 -- Assumes nothing.
 use Prim.Native.Nat.{ℕ, ◌+◌, ◌-◌, ◌/◌, ◌%◌, ◌≤◌, ◌<◌}
 use mathlib.Core.Bool.{Bool, true, false, cond}

@@ -1,4 +1,4 @@
--- Laws on bitLength: its bounds, that they determine it, that the first byte that is not 0 gives it by its leading zeros, and how it
+-- Laws on `bit_length`: its bounds, that they determine it, that the first byte that is not 0 gives it by its leading zeros, and how it
 -- compares with the logarithm rounded down. Assumes nothing.
 use Prim.Native.Nat.{ℕ, zero, suc, ◌+◌, ◌*◌, ◌-◌, ◌^◌, ◌≤◌, ◌<◌}
 use native.Mathlib.Nat.{not-suc-le-zero, not-le_of_lt, lt_of_not-le, lt_of_le_of_lt, pow-succ', mul-le-mul_right, mul_comm, add-suc, one-le-pow}

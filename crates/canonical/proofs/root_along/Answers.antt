@@ -1,5 +1,4 @@
--- `canonical::root_along` meets its contract. The invariant: what the siblings that are left make of the node is what all of them make of the leaf.
--- The measure is how many are left. Assumes nothing.
+-- What the check does not find alone of `canonical::root_along`; the invariants beside it say how the loop goes. Assumes nothing.
 use native.Mathlib.Omega.{arith}
 use mathlib.Core.Path.{refl, sym, ◌∙◌}
 use borrow.Author.Rules.{rules}

@@ -1,5 +1,4 @@
--- `content_ids::list_block` is safe and ends: each call of `list` uses some of the block, since the buffer takes a longest line.
--- Assumes nothing.
+-- What the check does not find alone of `content_ids::list_block`; the invariants beside it say how the loop goes. Assumes nothing.
 use native.Mathlib.Omega.{arith}
 use lib.ListN.{length-take, length-drop}
 use Rattle.content_ids.proofs.list_block.Goals as goal

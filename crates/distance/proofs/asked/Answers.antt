@@ -1,5 +1,4 @@
--- `distance::asked` meets its contract. The invariant: the log distance is among all distances exactly when it is among those that are
--- left. The measure is what is left. Assumes nothing.
+-- What the check does not find alone of `distance::asked`; the invariants beside it say how the loop goes. Assumes nothing.
 use native.Mathlib.Omega.{arith}
 use mathlib.Core.Path.{sym}
 use Rattle.distance.proofs.Requests.{asked_here, asked_later, asked_end}

@@ -1,5 +1,4 @@
--- `distance::at_most` meets its contract. The invariant: the test of the whole values is the test of what is left of them. A byte that
--- differs decides, an equal one leaves it to the rest (`proofs/Order.antt`). The measure is what is left of 32. Assumes nothing.
+-- What the check does not find alone of `distance::at_most`; the invariants beside it say how the loop goes. Assumes nothing.
 use Prim.Native.Nat.{ℕ, suc, ◌+◌, ◌-◌, ◌≤◌, ◌<◌}
 use native.Mathlib.Omega.{arith}
 use mathlib.Core.Path.{◌≡◌, sym, ap, ap₂, ◌∙◌}
@@ -53,7 +52,7 @@ bytes_b : (c : Start) → Bytes c.args.b
 bytes_b c = bytes_all c.args.b (λ i. let f : Fits w8 (get_or c.args.b i 0) = search rules in omega arith)
 
 inside : (c : In-loop-i) → c.loop-i.i < length c.args.a
-inside c = omega (arith, length_a c.before.before)
+inside c = let long : length c.args.a ≡ 32 = search rules in omega arith
 
 pub returns-then-a-i : goal.returns-then-a-i
 returns-then-a-i c =

@@ -1,6 +1,4 @@
--- `distance::log_distance` meets its contract. The invariant: the bytes passed are 0, so that the rest stand for the same number, and eight
--- bits are left for each byte of the rest. The first byte that is not 0 gives the bit length (`bits_first`). The measure is what is left of 32. Assumes
--- nothing.
+-- What the check does not find alone of `distance::log_distance`; the invariants beside it say how the loop goes. Assumes nothing.
 use Prim.Native.Nat.{ℕ, suc, ◌+◌, ◌*◌, ◌-◌, ◌≤◌, ◌<◌}
 use native.Mathlib.Numerals.{add-one}
 use native.Mathlib.Omega.{arith}

@@ -1,5 +1,4 @@
--- `distance::xor` meets its contract. The invariant: the bytes passed are those of the exclusive or, the rest are as they began.
--- A turn stores the next byte of the exclusive or, which is one step of a copy (`paste`). The measure is what is left of 32. Assumes nothing.
+-- What the check does not find alone of `distance::xor`; the invariants beside it say how the loop goes. Assumes nothing.
 use Prim.Native.Nat.{ℕ}
 use native.Mathlib.Omega.{arith}
 use mathlib.Core.Path.{◌≡◌, sym, ◌∙◌}

@@ -1,5 +1,4 @@
--- `epoch_tree::empty_node` meets its contract. The invariant: the node is the empty one of as many levels as were passed. The measure is how many
--- are left. Assumes nothing.
+-- What the check does not find alone of `epoch_tree::empty_node`; the invariants beside it say how the loop goes. Assumes nothing.
 use native.Mathlib.Omega.{arith}
 use mathlib.Core.Path.{refl, ap, ◌∙◌}
 use borrow.Author.Rules.{rules}

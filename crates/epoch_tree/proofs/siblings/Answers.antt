@@ -1,5 +1,4 @@
--- `epoch_tree::siblings` meets its contract. The invariant: the array has the siblings below the height and then zeros, and those that are left
--- are the ones of the node at that height and of the nodes above it. The measure is how many heights are left. Assumes nothing.
+-- What the check does not find alone of `epoch_tree::siblings`; the invariants beside it say how the loop goes. Assumes nothing.
 use native.Mathlib.Omega.{arith}
 use mathlib.Core.Path.{refl, ap, ◌∙◌}
 use borrow.Author.Rules.{rules}

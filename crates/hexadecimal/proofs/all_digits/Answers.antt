@@ -1,5 +1,4 @@
--- `hex::all_digits` meets its contract. The loop's invariant: the test of the whole text is the flag and the test of what is left of it.
--- Assumes nothing.
+-- What the check does not find alone of `hexadecimal::all_digits`; the invariants beside it say how the loop goes. Assumes nothing.
 use Prim.Native.Nat.{◌+◌}
 use mathlib.Core.Path.{refl, sym, ap, ◌∙◌}
 use mathlib.Core.Bool.{Bool, ◌&&◌}

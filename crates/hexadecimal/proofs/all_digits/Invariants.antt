@@ -1,4 +1,4 @@
--- `hex::all_digits` meets its contract. The loop's invariant: the test of the whole text is the flag and the test of what is left of it.
+-- `hexadecimal::all_digits` meets its contract. The loop's invariant: the test of the whole text is the flag and the test of what is left of it.
 -- Assumes nothing.
 use Prim.Native.Nat.{◌≤◌, ◌-◌}
 use mathlib.Core.Path.{◌≡◌}

@@ -1,6 +1,4 @@
--- `hex::decode` meets its contract. Past the tests the text is an even number of digits, so it stands for the bytes of its pairs.
--- The loop's invariant: the buffer starts with the first i of these bytes. Each turn is the law `put_byte`; a refusal comes before any store.
--- Assumes nothing.
+-- What the check does not find alone of `hexadecimal::decode`; the invariants beside it say how the loop goes. Assumes nothing.
 use Prim.Native.Nat.{◌+◌, ◌*◌, ◌/◌}
 use mathlib.Core.Bool.{true}
 use mathlib.Core.Option.{some}

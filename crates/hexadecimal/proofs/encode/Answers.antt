@@ -1,6 +1,4 @@
--- `hex::encode` meets its contract. The loop's invariant: the buffer has the first 2 * i characters of the text from `at` on.
--- Each turn is the law `put_text`, and each return a law on the room that the tests leave.
--- Assumes nothing.
+-- What the check does not find alone of `hexadecimal::encode`; the invariants beside it say how the loop goes. Assumes nothing.
 use mathlib.Core.Path.{◌∙◌}
 use native.Mathlib.Omega.{arith}
 use borrow.Author.Rules.{rules}

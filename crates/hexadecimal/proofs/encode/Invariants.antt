@@ -1,4 +1,4 @@
--- `hex::encode` meets its contract. The loop's invariant: the buffer has the first 2 * i characters of the text from `at` on.
+-- `hexadecimal::encode` meets its contract. The loop's invariant: the buffer has the first 2 * i characters of the text from `at` on.
 -- Each turn is the law `put_text`, and each return a law on the room that the tests leave.
 -- Assumes nothing.
 use Prim.Native.Nat.{◌+◌, ◌-◌, ◌*◌, ◌≤◌}

@@ -1,4 +1,4 @@
--- `hex::glyph` meets its contract: each answer is the side of the definition that the test picks.
+-- `hexadecimal::glyph` meets its contract: each answer is the side of the definition that the test picks.
 -- Assumes nothing.
 use borrow.Author.Tests.{lt-ltb, le-ltb}
 use Rattle.hexadecimal.proofs.glyph.Goals as goal

@@ -1,4 +1,4 @@
--- `hex::number` meets its contract: its caller knows that the character is a digit, so it is in one of two ranges. Assumes nothing.
+-- `hexadecimal::number` meets its contract: its caller knows that the character is a digit, so it is in one of two ranges. Assumes nothing.
 use native.Mathlib.Omega.{arith}
 use mathlib.Core.Path.{sym}
 use borrow.Author.Rules.{rules}

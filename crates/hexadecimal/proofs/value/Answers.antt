@@ -1,4 +1,4 @@
--- `hex::value` meets its contract: each answer is a law on the characters of the tests that led to it.
+-- `hexadecimal::value` meets its contract: each answer is a law on the characters of the tests that led to it.
 -- Assumes nothing.
 use mathlib.Core.Path.{sym}
 use mathlib.Core.Logic.{⊎_elim, inl, inr}

@@ -1,6 +1,4 @@
--- `key_index::find` meets its contract. The invariant: the place of the key among all keys is its place among those from i on. A key
--- with its bytes ends the search, another one leaves it to the rest, and where fewer than nine bytes are left no key has them. The measure
--- is what is left of the count. Assumes nothing.
+-- What the check does not find alone of `key_index::find`; the invariants beside it say how the loop goes. Assumes nothing.
 use Prim.Native.Nat.{ℕ, zero, suc, ◌+◌, ◌-◌, ◌*◌, ◌/◌, ◌≤◌, ◌<◌}
 use native.Mathlib.Numerals.{add-one}
 use native.Mathlib.Omega.{arith}

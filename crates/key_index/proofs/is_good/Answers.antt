@@ -1,5 +1,4 @@
--- `key_index::is_good` meets its contract. The invariant is `Scan` (`proofs/Scan.antt`), whose laws on a turn, named in the
--- source, answer the other returns and the next turn. The measure is what is left of the count. Assumes nothing.
+-- What the check does not find alone of `key_index::is_good`; the invariants beside it say how the loop goes. Assumes nothing.
 use borrow.Author.Rules.{rules}
 use Rattle.key_index.proofs.Scan.{scan_start, scan_end}
 use Rattle.key_index.proofs.is_good.Goals as goal

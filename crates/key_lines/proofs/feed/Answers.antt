@@ -1,5 +1,4 @@
--- `key_lines::feed` meets its contract. The invariant: the state stands for the text with the first `i` characters of the part. A turn is the
--- law `stored` or `passed`, by whether there was room. The measure is what is left of the part. Assumes nothing.
+-- What the check does not find alone of `key_lines::feed`; the invariants beside it say how the loop goes. Assumes nothing.
 use Prim.Native.Nat.{ℕ, ◌<◌}
 use mathlib.Core.List.{List, ◌++◌, append-nil}
 use mathlib.Core.Path.{◌≡◌, ◌∙◌, ap, sym, subst}

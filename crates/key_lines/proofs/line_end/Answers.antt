@@ -1,5 +1,4 @@
--- `key_lines::line_end` meets its contract. The invariant: the first line feed from `from` on is the first from `i` on. The laws scan-here,
--- scan-on and scan-end are its steps; the measure is what is left of the input. Assumes nothing.
+-- What the check does not find alone of `key_lines::line_end`; the invariants beside it say how the loop goes. Assumes nothing.
 use native.Mathlib.Omega.{arith}
 use borrow.Author.Rules.{rules}
 use Rattle.key_lines.proofs.Parts.{scan_here, scan_on, scan_end}

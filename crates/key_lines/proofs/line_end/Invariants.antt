@@ -1,5 +1,5 @@
--- `key_lines::line_end` meets its contract. The invariant: the first line feed from `from` on is the first from `i` on. The laws scan-here,
--- scan-on and scan-end are its steps; the measure is what is left of the input. Assumes nothing.
+-- `key_lines::line_end` meets its contract. The invariant: the first line feed from `from` on is the first from `i` on. The laws `scan_here`,
+-- `scan_on` and `scan_end` are its steps; the measure is what is left of the input. Assumes nothing.
 use Prim.Native.Nat.{◌+◌, ◌-◌, ◌≤◌}
 use mathlib.Core.Path.{◌≡◌}
 use lib.ListN.{length, drop}

@@ -1,5 +1,4 @@
--- `key_lines::list` meets its contract. The invariant `Through` says what the used part of the input left begun and printed; a turn is the laws
--- `grown` and, at a line feed, `ended` (`proofs/Turns.antt`). The measure is what is left of the input. Assumes nothing.
+-- What the check does not find alone of `key_lines::list`; the invariants beside it say how the loop goes. Assumes nothing.
 use native.Mathlib.Omega.{arith}
 use mathlib.Core.Path.{◌≡◌, refl, sym}
 use lib.Seq.{length-take-le}

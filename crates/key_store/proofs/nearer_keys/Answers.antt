@@ -1,5 +1,4 @@
--- `key_store::nearer_keys` meets its contract. The invariant: the first i keys are nearer, and the rest is still to be counted; its steps are
--- laws of `proofs/Nearer.antt`. The measure is what is left of the count. Assumes nothing.
+-- What the check does not find alone of `key_store::nearer_keys`; the invariants beside it say how the loop goes. Assumes nothing.
 use Prim.Native.Nat.{ℕ}
 use mathlib.Core.Path.{◌≡◌, sym, ◌∙◌}
 use borrow.Author.Rules.{rules}

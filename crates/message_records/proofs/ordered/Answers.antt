@@ -1,5 +1,4 @@
--- `message_records::ordered` meets its contract. The invariant: the order of all offsets is the order of those that are left. A pair that falls
--- decides, any other leaves it to the rest (`proofs/Offsets.antt`). The measure is what is left of the count. Assumes nothing.
+-- What the check does not find alone of `message_records::ordered`; the invariants beside it say how the loop goes. Assumes nothing.
 use mathlib.Core.Path.{sym, ◌∙◌}
 use borrow.Author.Rules.{rules}
 use Rattle.message_records.proofs.Offsets.{offset_falls, offset_rises, offsets_end}

@@ -1,6 +1,4 @@
--- `message_records::places` meets its contract. The invariant: the first i cells of both arrays are filled, the others are zeros. No offset is above
--- the next or the size, so nothing wraps (`proofs/Offsets.antt`); what is filled are the records' places (`proofs/Filled.antt`). The measure
--- is what is left of the count. Assumes nothing.
+-- What the check does not find alone of `message_records::places`; the invariants beside it say how the loop goes. Assumes nothing.
 use Prim.Native.Nat.{◌≤◌}
 use native.Mathlib.Omega.{arith}
 use borrow.Author.Rules.{rules}

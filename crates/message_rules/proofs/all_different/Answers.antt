@@ -1,5 +1,4 @@
--- `message_rules::all_different` meets its contract. The invariant: the answer on all bytes is that of the pass with the flags on the rest, by the laws of
--- `Flags`. The measure is what is left of the length. Assumes nothing.
+-- What the check does not find alone of `message_rules::all_different`; the invariants beside it say how the loop goes. Assumes nothing.
 use native.Mathlib.Omega.{arith}
 use mathlib.Core.Path.{sym, ◌∙◌}
 use borrow.Author.Rules.{rules}

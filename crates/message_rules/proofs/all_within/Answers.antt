@@ -1,5 +1,4 @@
--- `message_rules::all_within` meets its contract. The invariant: there are as many starts as lengths, and the places that were passed lie in the
--- bytes. One that does not decides. The measure is what is left of the places. Assumes nothing.
+-- What the check does not find alone of `message_rules::all_within`; the invariants beside it say how the loop goes. Assumes nothing.
 use native.Mathlib.Omega.{arith}
 use mathlib.Core.Path.{◌≡◌, ap, ◌∙◌}
 use lib.ListN.{length}

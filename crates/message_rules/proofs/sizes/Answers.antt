@@ -1,5 +1,4 @@
--- `message_rules::sizes` meets its contract. The invariant: the test of all sizes is the test of those that are left. A bad size decides, a good
--- one leaves it to the rest (`proofs/Lengths.antt`). The measure is what is left of the count. Assumes nothing.
+-- What the check does not find alone of `message_rules::sizes`; the invariants beside it say how the loop goes. Assumes nothing.
 use mathlib.Core.Path.{sym, ◌∙◌}
 use borrow.Author.Rules.{rules}
 use Rattle.message_rules.proofs.Lengths.{size_low, size_high, size_good, sizes_end}

@@ -1,6 +1,4 @@
--- `message_rules::some_equal` meets its contract. The invariants: before a row, no record of an earlier row is equal to another (`Clear`); in a
--- row, nor is the row's record to those passed (`Row`). The steps, and the pair that the label leaves at, are laws of `proofs/Pairs.antt`.
--- The measures are what is left of the count. Assumes nothing.
+-- What the check does not find alone of `message_rules::some_equal`; the invariants beside it say how the loop goes. Assumes nothing.
 use Prim.Native.Nat.{ℕ, ◌+◌, ◌≤◌}
 use mathlib.Core.Path.{refl, ◌∙◌}
 use lib.ListN.{length, get_or}

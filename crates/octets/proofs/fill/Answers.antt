@@ -1,5 +1,4 @@
--- `octets::fill` meets its contract. The invariant: the bytes passed are those from the place on, the rest are as they began; a turn is one
--- step of a copy. The measure is what is left of the buffer. Assumes nothing.
+-- What the check does not find alone of `octets::fill`; the invariants beside it say how the loop goes. Assumes nothing.
 use native.Mathlib.Omega.{arith}
 use mathlib.Core.Path.{◌∙◌}
 use lib.ListN.{length, length-set}

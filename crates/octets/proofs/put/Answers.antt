@@ -1,5 +1,4 @@
--- `octets::put` meets its contract. The invariant: the first `i` bytes stand in the buffer from `at` on (`paste`). The measure is what is
--- left of them. Assumes nothing.
+-- What the check does not find alone of `octets::put`; the invariants beside it say how the loop goes. Assumes nothing.
 use mathlib.Core.Path.{◌∙◌, sym}
 use lib.ListN.{length-set}
 use lib.Seq.{paste-zero}

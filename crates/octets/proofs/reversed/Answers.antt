@@ -1,5 +1,4 @@
--- `octets::reversed` meets its contract. The invariant: the bytes passed are those in the other order, the rest are as they began, and
--- `from` counts down as `i` counts up. A turn is one step of a copy. The measure is what is left of 32. Assumes nothing.
+-- What the check does not find alone of `octets::reversed`; the invariants beside it say how the loop goes. Assumes nothing.
 use native.Mathlib.Omega.{arith}
 use mathlib.Core.Path.{◌≡◌, sym, ◌∙◌}
 use mathlib.Core.List.{reverse}

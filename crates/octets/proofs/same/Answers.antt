@@ -1,5 +1,4 @@
--- `octets::same` meets its contract. The invariant: the test of the whole is the test of what is left; a byte that differs decides it, an
--- equal one leaves it to the rest. The measure is what is left of the first. Assumes nothing.
+-- What the check does not find alone of `octets::same`; the invariants beside it say how the loop goes. Assumes nothing.
 use native.Mathlib.Omega.{arith}
 use mathlib.Core.Path.{sym, ◌∙◌}
 use borrow.Author.Rules.{rules}

@@ -1,5 +1,4 @@
--- `rlp::number` meets its contract. The loop's invariant: n is the number of the first i bytes, below 256 ^ i. Each turn is `be_more`;
--- i is below 8 at each, so nothing wraps. Assumes nothing.
+-- What the check does not find alone of `rlp::number`; the invariants beside it say how the loop goes. Assumes nothing.
 use Prim.Native.Nat.{ℕ, ◌+◌, ◌*◌}
 use mathlib.Core.Path.{◌≡◌, ◌∙◌, ap}
 use native.Mathlib.Omega.{arith}

@@ -1,5 +1,4 @@
--- `sha256::digest` meets its contract. The invariant: the bytes so far are those of the words so far, and the others zeros. The measure is what
--- is left of eight words. Assumes nothing.
+-- What the check does not find alone of `sha256::digest`; the invariants beside it say how the loop goes. Assumes nothing.
 use borrow.Author.Rules.{rules}
 use Prim.Native.Nat.{ℕ, ◌*◌, ◌-◌}
 use mathlib.Core.Path.{◌≡◌, refl, ap, ◌∙◌}

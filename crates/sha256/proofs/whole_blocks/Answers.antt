@@ -1,5 +1,4 @@
--- `sha256::whole_blocks` meets its contract. The invariant: the state is that after the blocks so far. The measure is what is left of the blocks.
--- Assumes nothing.
+-- What the check does not find alone of `sha256::whole_blocks`; the invariants beside it say how the loop goes. Assumes nothing.
 use borrow.Author.Rules.{rules}
 use Prim.Native.Nat.{◌+◌, ◌-◌, ◌*◌, ◌/◌}
 use mathlib.Core.Path.{◌≡◌, ap, ◌∙◌}

@@ -1,5 +1,4 @@
--- `sha256_block::all_rounds` meets its contract. The invariant: the state is that after eight rounds for each turn. The measure is what is left of
--- eight turns. Assumes nothing.
+-- What the check does not find alone of `sha256_block::all_rounds`; the invariants beside it say how the loop goes. Assumes nothing.
 use Rattle.std.proofs.Common.{◌≡◌, ℕ, ◌*◌, List, refl, ap, ◌∙◌, rules}
 use Rattle.sha256_block.specs.Block.{rounds}
 use Rattle.sha256_block.proofs.Turns.{eight_more}

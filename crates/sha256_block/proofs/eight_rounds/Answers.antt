@@ -1,5 +1,4 @@
--- `sha256_block::eight_rounds` meets its contract. The invariant: the state is that after the rounds so far. The measure is what is left of eight.
--- Assumes nothing.
+-- What the check does not find alone of `sha256_block::eight_rounds`; the invariants beside it say how the loop goes. Assumes nothing.
 use Rattle.std.proofs.Common.{◌≡◌, sym, refl, ap, ◌∙◌, add-one, rules}
 use Rattle.sha256_block.specs.Block.{rounds}
 use Rattle.sha256_block.proofs.Turns.{round_more}

@@ -1,5 +1,4 @@
--- `sha256_block::opening_whole` meets its contract. The invariant: the words so far are those of the block, and the others zeros. The measure is
--- what is left of sixteen. Assumes nothing.
+-- What the check does not find alone of `sha256_block::opening_whole`; the invariants beside it say how the loop goes. Assumes nothing.
 use Rattle.std.proofs.Common.{◌≡◌, ℕ, ◌-◌, ◌++◌, replicate, refl, ap, ◌∙◌, rules}
 use Rattle.sha256_block.specs.Block.{word_at, first_words}
 use Rattle.sha256_block.proofs.Schedules.{first_more}

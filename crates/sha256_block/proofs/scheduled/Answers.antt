@@ -1,5 +1,4 @@
--- `sha256_block::scheduled` meets its contract. The invariant: the words so far are those of the schedule, and the others zeros. The measure is
--- what is left of 48. Assumes nothing.
+-- What the check does not find alone of `sha256_block::scheduled`; the invariants beside it say how the loop goes. Assumes nothing.
 use Rattle.std.proofs.Common.{◌≡◌, ℕ, ◌-◌, ◌++◌, replicate, ap, ◌∙◌, append-nil, rules}
 use Rattle.sha256_block.specs.Block.{next_word, schedule}
 use Rattle.sha256_block.proofs.Schedules.{schedule_more}

@@ -1,5 +1,4 @@
--- `message_write::parts::list_size` meets its contract. The invariant: the size is that of the offsets and the first `i` lengths, each at most 300. The
--- measure is what is left of the count. Assumes nothing.
+-- What the check does not find alone of `message_write::parts::list_size`; the invariants beside it say how the loop goes. Assumes nothing.
 use native.Mathlib.Omega.{arith}
 use mathlib.Core.Path.{◌≡◌, ap}
 use Rattle.message_write.specs.Parts.{sum_to}

@@ -1,5 +1,4 @@
--- `message_write::parts::put_offsets` meets its contract. The invariant is `Offsets` of `proofs/Turns.antt`, whose laws are the loop's start, turn and end. The
--- measure is what is left of the count. Assumes nothing.
+-- What the check does not find alone of `message_write::parts::put_offsets`; the invariants beside it say how the loop goes. Assumes nothing.
 use Prim.Native.Nat.{◌+◌, ◌*◌, ◌≤◌}
 use native.Mathlib.Omega.{arith}
 use lib.ListN.{length, get_or}

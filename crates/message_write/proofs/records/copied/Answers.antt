@@ -1,5 +1,4 @@
--- `message_write::records::copied` meets its contract. The invariant: the first `i` places stand in the array (`paste`). The measure is what is left of them.
--- Assumes nothing.
+-- What the check does not find alone of `message_write::records::copied`; the invariants beside it say how the loop goes. Assumes nothing.
 use Prim.Native.Nat.{ℕ, zero, suc, ◌+◌, ◌-◌}
 use native.Mathlib.Omega.{arith}
 use mathlib.Core.List.{List, ◌++◌}

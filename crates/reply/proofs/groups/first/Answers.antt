@@ -1,5 +1,4 @@
--- `groups::first` meets its contract. The invariant: those passed are taken, and the size is that of a message with them (`Taking` of
--- `proofs/Taking.antt`). The measure is what is left of the lengths. Assumes nothing.
+-- What the check does not find alone of `groups::first`; the invariants beside it say how the loop goes. Assumes nothing.
 use native.Mathlib.Omega.{arith}
 use mathlib.Core.Path.{refl}
 use mathlib.Core.Logic.{inl, inr}

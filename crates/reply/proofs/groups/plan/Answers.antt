@@ -1,5 +1,4 @@
--- `groups::plan` meets its contract. The invariant: the groups of the records before `from` are counted, and their bytes (`Spreading` of
--- `proofs/Spreading.antt`). The measure is what is left of the lengths. Assumes nothing.
+-- What the check does not find alone of `groups::plan`; the invariants beside it say how the loop goes. Assumes nothing.
 use native.Mathlib.Omega.{arith}
 use mathlib.Core.Path.{refl}
 use Rattle.message_read.proofs.Lists.{part_rest}

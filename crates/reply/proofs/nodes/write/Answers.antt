@@ -1,5 +1,4 @@
--- `nodes::write` meets its contract. The invariant: the first i messages are written, their lengths are noted, and the groups left are those
--- of the records left (`Sending` of `proofs/Sending.antt`). The measure is what is left of the messages. Assumes nothing.
+-- What the check does not find alone of `nodes::write`; the invariants beside it say how the loop goes. Assumes nothing.
 use Prim.Native.Nat.{ℕ, ◌+◌, ◌-◌, ◌≤◌, ◌<◌}
 use native.Mathlib.Omega.{arith}
 use mathlib.Core.Path.{refl}

@@ -1,5 +1,4 @@
--- `reply_records::gather::gather` meets its contract. The invariant: the records kept so far, and those at the places from i on, come to all that
--- are due. The measure is what is left of the places. Assumes nothing.
+-- What the check does not find alone of `reply_records::gather::gather`; the invariants beside it say how the loop goes. Assumes nothing.
 use Prim.Native.Nat.{ℕ, ◌+◌}
 use native.Mathlib.Omega.{arith}
 use mathlib.Core.Path.{refl, sym, ap, ◌∙◌}

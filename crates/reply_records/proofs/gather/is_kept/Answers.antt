@@ -1,5 +1,4 @@
--- `reply_records::gather::is_kept` meets its contract. The invariant: the search in the whole is the search in what is left. The measure is what is
--- left of the slots. Assumes nothing.
+-- What the check does not find alone of `reply_records::gather::is_kept`; the invariants beside it say how the loop goes. Assumes nothing.
 use native.Mathlib.Omega.{arith}
 use mathlib.Core.Path.{refl, ◌∙◌}
 use mathlib.Core.Bool.{true, false}

@@ -1,5 +1,4 @@
--- `reply_records::gather::same` meets its contract. The invariant: the test on the whole is the flag and the test on the rest. The measure is
--- what is left of the bytes. Assumes nothing.
+-- What the check does not find alone of `reply_records::gather::same`; the invariants beside it say how the loop goes. Assumes nothing.
 use Prim.Native.Nat.{ℕ, ◌-◌}
 use native.Mathlib.Omega.{arith}
 use mathlib.Core.Path.{refl, sym, ap, ◌∙◌}

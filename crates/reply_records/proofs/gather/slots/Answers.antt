@@ -1,5 +1,4 @@
--- `reply_records::gather::slots` meets its contract. The invariant: the array begins with the starts stored. The measure is what is left.
--- Assumes nothing.
+-- What the check does not find alone of `reply_records::gather::slots`; the invariants beside it say how the loop goes. Assumes nothing.
 use mathlib.Core.List.{[]}
 use native.Mathlib.Omega.{arith}
 use mathlib.Core.Path.{refl, sym, ◌∙◌}

@@ -1,5 +1,4 @@
--- `routing_calls::changes::replacement_out` meets its contract. The invariant: the replacements behind the place are moved up, as far as
--- i (`proofs/Closed.antt`); a turn moves one more. The measure is what is left to move. Assumes nothing.
+-- What the check does not find alone of `routing_calls::changes::replacement_out`; the invariants beside it say how the loop goes. Assumes nothing.
 use Prim.Native.Nat.{ℕ, ◌-◌}
 use native.Mathlib.Omega.{arith}
 use mathlib.Core.Path.{◌≡◌, ap, ◌∙◌}

@@ -1,5 +1,4 @@
--- `routing_table::rules::none_over` meets its contract. The invariant: the test of all log distances is the test of those that are left. The
--- measure is what is left. Assumes nothing.
+-- What the check does not find alone of `routing_table::rules::none_over`; the invariants beside it say how the loop goes. Assumes nothing.
 use native.Mathlib.Omega.{arith}
 use mathlib.Core.Path.{sym, ◌∙◌}
 use lib.ListN.{get_or}

@@ -1,5 +1,4 @@
--- `routing_table::rules::sized_replacements` meets its contract. The invariant: the test of all replacements is the test of those that are
--- left. The measure is what is left of their number. Assumes nothing.
+-- What the check does not find alone of `routing_table::rules::sized_replacements`; the invariants beside it say how the loop goes. Assumes nothing.
 use native.Mathlib.Omega.{arith}
 use mathlib.Core.Path.{◌≡◌, sym, ◌∙◌}
 use mathlib.Core.Bool.{true, false}

@@ -1,5 +1,4 @@
--- `routing_table::rules::sound_entries` meets its contract. The invariant: the test of all entries is the test of those that are left. The
--- measure is what is left of the count. Assumes nothing.
+-- What the check does not find alone of `routing_table::rules::sound_entries`; the invariants beside it say how the loop goes. Assumes nothing.
 use Prim.Native.Nat.{◌<◌, ◌≤◌}
 use native.Mathlib.Omega.{arith}
 use mathlib.Core.Path.{◌≡◌, sym, ◌∙◌}

@@ -1,5 +1,4 @@
--- `routing_table::scans::all_different` meets its contract. The invariants: before a row, no id of an earlier row is equal to another
--- (`Clear`); in a row, nor is the row's id to those passed (`Row`). The measures are what is left of the ids. Assumes nothing.
+-- What the check does not find alone of `routing_table::scans::all_different`; the invariants beside it say how the loop goes. Assumes nothing.
 use mathlib.Core.List.{[]}
 use native.Mathlib.Omega.{arith}
 use mathlib.Core.Path.{refl, sym, ◌∙◌}

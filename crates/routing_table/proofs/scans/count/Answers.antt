@@ -1,5 +1,4 @@
--- `routing_table::scans::count` meets its contract. The invariant: the number so far and the number in what is left are the number in the
--- whole. The measure is what is left. Assumes nothing.
+-- What the check does not find alone of `routing_table::scans::count`; the invariants beside it say how the loop goes. Assumes nothing.
 use native.Mathlib.Omega.{arith}
 use lib.ListN.{get_or}
 use borrow.Author.Rules.{rules}

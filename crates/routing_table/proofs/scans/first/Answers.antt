@@ -1,5 +1,4 @@
--- `routing_table::scans::first` meets its contract. The invariant: the first place in the whole is i more than the first place in what is
--- left. The measure is what is left. Assumes nothing.
+-- What the check does not find alone of `routing_table::scans::first`; the invariants beside it say how the loop goes. Assumes nothing.
 use native.Mathlib.Omega.{arith}
 use lib.ListN.{get_or}
 use lib.Dec.{eqb}

@@ -1,5 +1,4 @@
--- `routing_table::scans::last` meets its contract. The invariant: the last place in the whole is the last place in what is left, or where it
--- is not there the last one met. The measure is what is left. Assumes nothing.
+-- What the check does not find alone of `routing_table::scans::last`; the invariants beside it say how the loop goes. Assumes nothing.
 use native.Mathlib.Omega.{arith}
 use mathlib.Core.Path.{sym, ◌∙◌}
 use lib.ListN.{get_or}

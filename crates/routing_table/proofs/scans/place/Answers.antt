@@ -1,5 +1,4 @@
--- `routing_table::scans::place` meets its contract. The invariant: the first place in the whole is i more than the first place in what is
--- left. The measure is what is left. Assumes nothing.
+-- What the check does not find alone of `routing_table::scans::place`; the invariants beside it say how the loop goes. Assumes nothing.
 use mathlib.Core.List.{[]}
 use native.Mathlib.Omega.{arith}
 use mathlib.Core.Path.{sym, ◌∙◌}

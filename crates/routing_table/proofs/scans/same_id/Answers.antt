@@ -1,5 +1,4 @@
--- `routing_table::scans::same_id` meets its contract. The invariant: the bytes passed are equal exactly where the flag is up, and the test on the whole is
--- the flag and the test on the rest. The measure is what is left of the bytes. Assumes nothing.
+-- What the check does not find alone of `routing_table::scans::same_id`; the invariants beside it say how the loop goes. Assumes nothing.
 use mathlib.Core.Path.{◌≡◌, refl, sym, ◌∙◌}
 use lib.ListN.{length}
 use borrow.Author.Rules.{rules}

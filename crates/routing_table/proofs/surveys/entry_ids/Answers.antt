@@ -1,5 +1,4 @@
--- `routing_table::surveys::entry_ids` meets its contract. The invariant: the array begins with our own id and the ids stored. The measure is
--- what is left of the count. Assumes nothing.
+-- What the check does not find alone of `routing_table::surveys::entry_ids`; the invariants beside it say how the loop goes. Assumes nothing.
 use native.Mathlib.Omega.{arith}
 use mathlib.Core.Path.{refl, sym}
 use mathlib.Core.List.{[], ◌∷◌}

@@ -1,5 +1,4 @@
--- `routing_table::surveys::ids_of` meets its contract. The invariant: the array begins with our own id, those of the entries and those
--- stored. The measure is what is left of the replacements. Assumes nothing.
+-- What the check does not find alone of `routing_table::surveys::ids_of`; the invariants beside it say how the loop goes. Assumes nothing.
 use Prim.Native.Nat.{◌+◌}
 use native.Mathlib.Omega.{arith}
 use mathlib.Core.Path.{sym}

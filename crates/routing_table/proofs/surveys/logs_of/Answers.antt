@@ -1,5 +1,4 @@
--- `routing_table::surveys::logs_of` meets its contract. The invariant: the array begins with the log distances stored. The measure is what
--- is left of the ids. Assumes nothing.
+-- What the check does not find alone of `routing_table::surveys::logs_of`; the invariants beside it say how the loop goes. Assumes nothing.
 use mathlib.Core.List.{[]}
 use Prim.Native.Nat.{ℕ, ◌+◌}
 use native.Mathlib.Omega.{arith}

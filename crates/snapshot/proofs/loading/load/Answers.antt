@@ -1,5 +1,4 @@
--- `snapshot::loading::load` meets its contract. The invariant is `Through` (`proofs/Turns.antt`), whose steps answer the returns and the next turn.
--- The measure is what is left of the count. Assumes nothing.
+-- What the check does not find alone of `snapshot::loading::load`; the invariants beside it say how the loop goes. Assumes nothing.
 use native.Mathlib.Omega.{arith}
 use borrow.Author.Rules.{rules}
 use borrow.Author.Tests.{not-true, not-false, eqb-true, eqb-false}

@@ -1,5 +1,4 @@
--- `snapshot::saving::save` meets its contract. The invariant is `Saving` (`proofs/Writing.antt`): the buffer starts with the first line and the
--- lines of the first i keys. The measure is what is left of the count. Assumes nothing.
+-- What the check does not find alone of `snapshot::saving::save`; the invariants beside it say how the loop goes. Assumes nothing.
 use Prim.Native.Nat.{◌+◌, ◌*◌, ◌≤◌}
 use native.Mathlib.Omega.{arith}
 use mathlib.Core.Path.{◌≡◌, sym, ◌∙◌}

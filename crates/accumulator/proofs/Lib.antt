@@ -1,5 +1,4 @@
 pub mod Trees
-pub mod Filling
 pub mod Chunks
 pub mod Epochs
 pub mod Canonical

@@ -6,7 +6,8 @@ use native.Mathlib.Numerals.{add-one}
 use native.Mathlib.Omega.{arith}
 use mathlib.Core.Path.{◌≡◌, refl, sym, ap, ap₂, ◌∙◌}
 use mathlib.Core.Bool.{Bool, true, false, cond}
-use mathlib.Core.List.{List, ◌++◌}
+use mathlib.Core.List.{List, [], ◌++◌, append-nil}
+use Rattle.sha256.specs.Hash.{sha256}
 use lib.Dec.{eqb}
 use lib.ListN.{length}
 use lib.Pow.{shr-shr}
@@ -75,3 +76,8 @@ module _ (leaf : ℕ → List ℕ) where
       let all : k * 2 ^ suc n ≡ k * 2 ^ n * 2 = ap (λ (p : ℕ). k * p) twice ∙ sym (mul_assoc k (2 ^ n) 2) in
       ap (λ (x : List ℕ). root_along (index / 2) x (siblings leaf n (suc height) (place / 2) ++ above)) (joined_node index height place (omega (arith, all, at)))
       ∙ root_along_lem k n (suc height) (place / 2) top above (omega (arith, twice, below)) (omega (arith, is)) (index / 2) (omega (arith, all, at))
+
+-- the hash of two halves, one behind the other, is the node over them
+pub parent_made : (left right both made : List ℕ) → made ≡ sha256 both → both ≡ left ++ (right ++ []) → made ≡ parent left right
+unfolding parent
+parent_made left right both made is e = is ∙ ap sha256 (e ∙ ap (λ (l : List ℕ). left ++ l) (append-nil right))

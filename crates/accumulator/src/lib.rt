@@ -8,8 +8,5 @@ ghost use Rattle.accumulator.specs.Tree.{parent};
 pub fn parent(left: [u8; 32], right: [u8; 32]) -> [u8; 32]
     ensures { result ≡ parent left right }
 {
-    let mut both = [0u8; 64];
-    octets::put(&left, &mut both, 0);
-    octets::put(&right, &mut both, 32);
-    sha256::hash(&both)
+    sha256::hash([left, right].as_flattened())
 }

@@ -1,15 +1,18 @@
 -- What `canonical` answers. Assumes nothing.
-use Prim.Native.Nat.{ℕ, ◌*◌, ◌/◌, ◌%◌, ◌<◌, ◌≤◌}
+use Prim.Native.Nat.{ℕ, ◌*◌, ◌/◌, ◌<◌, ◌≤◌}
 use native.Mathlib.Omega.{arith}
 use mathlib.Core.Path.{◌≡◌, sym, ap, ap₂, ◌∙◌}
 use mathlib.Core.Bool.{Bool, true, false}
 use mathlib.Core.List.{List}
 use lib.Dec.{eqb}
 use lib.ListN.{length}
-use borrow.Author.Tests.{eqb-true, eq-eqb, ne_eqb, le-leb, lt-leb, lt-ltb, le-ltb}
+use borrow.Author.Tests.{eqb-true, lt-ltb, le-ltb}
 use Rattle.refusal.specs.Says.{Said, only}
 use Rattle.refusal.specs.Outcome.{given, refusal}
+use lib.Pointwise.{pointwise}
+use Rattle.std.specs.Prelude.{nat_eq}
 use Rattle.octets.specs.Equal.{same_bytes}
+use Rattle.octets.proofs.Equal.{same_pointwise}
 use Rattle.octets.specs.Parts.{bytes_at}
 use Rattle.octets.proofs.Tests.{both}
 use Rattle.octets.proofs.Parts.{bytes_at_all, bytes_at_part}
@@ -24,23 +27,6 @@ module _ (number : ℕ) (hash proof roots : List ℕ) where
       let three = (both _ _ e).0 in
       let two = both _ _ (both _ _ three).0 in
       (eqb-true (length hash) 32 two.0, eqb-true (length proof) 480 two.1)
-
-  -- the four tests of lengths
-  pub hash_size : (length hash ≡ 32 → ⊥) → false ≡ lengths_good hash proof roots
-  unfolding lengths_good
-  hash_size h = sym (simp (ne_eqb (length hash) 32 h))
-
-  pub proof_size : length hash ≡ 32 → (length proof ≡ 480 → ⊥) → false ≡ lengths_good hash proof roots
-  unfolding lengths_good
-  proof_size h p = sym (simp (eq-eqb (length hash) 32 h, ne_eqb (length proof) 480 p))
-
-  pub roots_many : length hash ≡ 32 → length proof ≡ 480 → 65536 < length roots → false ≡ lengths_good hash proof roots
-  unfolding lengths_good
-  roots_many h p r = sym (simp (eq-eqb (length hash) 32 h, eq-eqb (length proof) 480 p, lt-leb (length roots) 65536 r))
-
-  pub roots_whole : length hash ≡ 32 → length proof ≡ 480 → length roots ≤ 65536 → (test : Bool) → test ≡ eqb (length roots % 32) 0 → test ≡ lengths_good hash proof roots
-  unfolding lengths_good
-  roots_whole h p r test is = is ∙ sym (simp (eq-eqb (length hash) 32 h, eq-eqb (length proof) 480 p, le-leb (length roots) 65536 r))
 
   pub wrong_length : lengths_good hash proof roots ≡ false → (says : Said) → says ≡ only 24 → refusal says ≡ canonical_of number hash proof roots
   unfolding canonical_of
@@ -64,8 +50,8 @@ module _ (number : ℕ) (hash proof roots : List ℕ) where
         e ∙ ap (λ (k : ℕ). bytes_at 32 k roots) f ∙ bytes_at_part 32 (32 * epoch_of number) roots (omega (arith, lent))
 
     -- past the tests: whether these two are the same
-    pub judged : (computed wanted : List ℕ) (same : Bool) → same ≡ same_bytes computed wanted → computed ≡ root_along (hash_index number) hash (chunks_of 15 proof)
-        → wanted ≡ root_at roots (epoch_of number) → (answer : Bool) → answer ≡ same → given answer ≡ canonical_of number hash proof roots
+    pub judged : (computed wanted : List ℕ) (same : Bool) → same ≡ pointwise nat_eq computed wanted → computed ≡ root_along (hash_index number) hash (chunks_of 15 proof)
+        → wanted ≡ root_at roots (epoch_of number) → given same ≡ canonical_of number hash proof roots
     unfolding canonical_of is_canonical
-    judged computed wanted same is e f answer says =
-        ap given (says ∙ is ∙ ap₂ same_bytes e f) ∙ sym (rw (good, lt-ltb (epoch_of number) (length roots / 32) lent))
+    judged computed wanted same is e f =
+        ap given (is ∙ same_pointwise computed wanted ∙ ap₂ same_bytes e f) ∙ sym (rw (good, lt-ltb (epoch_of number) (length roots / 32) lent))

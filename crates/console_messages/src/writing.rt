@@ -1,269 +1,130 @@
 // `write` and a message in words: the message's bytes.
-use console_text::words::Words;
-use console_text::{answer, words};
-use hexadecimal::Decoded;
+use console_text::buffers::{Buffer, Buffers};
+use console_text::bytes::Answer;
+use console_text::fault::Fault;
+use console_text::shown::Word;
+use console_text::words::{MOST, Words, decode, front};
 use message_write::{KeyMessage, Probe};
-use refusal::{Refusal, Wrote};
 
-// The most records that a line can name.
-const MOST: usize = 40;
-
-// What a line comes to.
-#[derive(Clone, Copy)]
-enum Reply {
-    Bytes(usize),
-    Refused(Refusal),
-    NoCall,
+// write and a message in words
+pub fn write(
+    words: Words<'_>,
+    buffers: &mut Buffers,
+    buffer: &mut Buffer,
+    out: &mut Answer,
+) -> Result<(), Fault> {
+    let n = make(words, &mut buffers.data, buffer.lent())?;
+    out.line(format_args!("message {}", Word(buffer.written(n))));
+    Ok(())
 }
 
-#[derive(Clone, Copy)]
-enum Name {
-    Ping,
-    Pong,
-    FindNode,
-    FoundNodes,
-    FindContent,
-    FoundContent,
-    Offer,
-    Accept,
-    Store,
-    None,
+// Writes the message that the words name, and answers its length.
+fn make(mut words: Words<'_>, data: &mut [u8], buffer: &mut [u8]) -> Result<usize, Fault> {
+    match words.word()? {
+        b"ping" => probe(Probe::Ping, words, buffer),
+        b"pong" => probe(Probe::Pong, words, buffer),
+        b"findnode" => distances(words, data, buffer),
+        b"foundnodes" => nodes(words, data, buffer),
+        b"findcontent" => key(KeyMessage::FindContent, words, data, buffer),
+        b"foundcontent" => found(words, data, buffer),
+        b"offer" => key(KeyMessage::Offer, words, data, buffer),
+        b"accept" => key(KeyMessage::Accept, words, data, buffer),
+        b"store" => store(words, data, buffer),
+        _ => Err(Fault::NoCall),
+    }
 }
 
-// Records that are decoded one behind the other, up to `end`.
+fn probe(kind: Probe, mut words: Words<'_>, buffer: &mut [u8]) -> Result<usize, Fault> {
+    let radius = words.value::<32>()?;
+    words.end()?;
+    Ok(message_write::write_probe(kind, radius, buffer)?)
+}
+
+fn distances(mut words: Words<'_>, data: &mut [u8], buffer: &mut [u8]) -> Result<usize, Fault> {
+    let distances = words.bytes(data)?;
+    words.end()?;
+    Ok(message_write::write_find_node(distances, buffer)?)
+}
+
+fn key(
+    kind: KeyMessage,
+    mut words: Words<'_>,
+    data: &mut [u8],
+    buffer: &mut [u8],
+) -> Result<usize, Fault> {
+    let key = words.bytes(data)?;
+    words.end()?;
+    Ok(message_write::write_key(kind, key, buffer)?)
+}
+
+fn store(mut words: Words<'_>, data: &mut [u8], buffer: &mut [u8]) -> Result<usize, Fault> {
+    let connection = words.value::<4>()?;
+    let content = words.bytes(data)?;
+    words.end()?;
+    Ok(message_write::write_store(connection, content, buffer)?)
+}
+
+fn nodes(mut words: Words<'_>, data: &mut [u8], buffer: &mut [u8]) -> Result<usize, Fault> {
+    let total = u8::try_from(words.number()?)?;
+    let lent = records(words, data, 0)?;
+    let (starts, lens) = (lent.starts(), lent.lens());
+    Ok(message_write::write_found_nodes(total, data, starts, lens, buffer)?)
+}
+
+fn found(mut words: Words<'_>, data: &mut [u8], buffer: &mut [u8]) -> Result<usize, Fault> {
+    let connection = words.value::<4>()?;
+    let n = decode(words.word()?, data)?;
+    let lent = records(words, data, n)?;
+    let (starts, lens) = (lent.starts(), lent.lens());
+    let content = front(data, n);
+    Ok(message_write::write_found_content(connection, data, starts, lens, content, buffer)?)
+}
+
+// Records that stand one behind the other in a buffer, up to `end`.
+// Kept: `message_write` takes starts and lengths apart, since test write_edges hands in different numbers of them.
 #[derive(Clone, Copy)]
 struct Lent {
-    good: bool,
     end: usize,
     count: usize,
     starts: [usize; MOST],
     lens: [usize; MOST],
 }
 
-// Writes into the first `room` bytes of the spare buffer.
-pub fn write(
-    line: &[u8],
-    words: Words,
-    room: usize,
-    data: &mut [u8],
-    spare: &mut [u8],
-    out: &mut [u8],
-) -> usize {
-    let made = made_in(line, words, room, data, spare);
-    match made {
-        Reply::Bytes(n) => {
-            let at = answer::text(out, 0, b"message ");
-            let last = answer::bytes(out, at, words::front(spare, n));
-            answer::end(out, last)
+impl Lent {
+    fn starts(&self) -> &[usize] {
+        self.starts.get(..self.count).unwrap_or(&[])
+    }
+
+    fn lens(&self) -> &[usize] {
+        self.lens.get(..self.count).unwrap_or(&[])
+    }
+
+    // With one record more.
+    fn push(&mut self, len: usize) -> Result<(), Fault> {
+        let count = self.count;
+        if MOST <= count {
+            return Err(Fault::NoCall);
         }
-        Reply::Refused(why) => answer::refused(out, why),
-        Reply::NoCall => answer::error(out),
+        self.starts[count] = self.end;
+        self.lens[count] = len;
+        self.count = count + 1;
+        self.end = self.end.saturating_add(len);
+        Ok(())
     }
 }
 
-fn made_in(line: &[u8], words: Words, room: usize, data: &mut [u8], spare: &mut [u8]) -> Reply {
-    if room < spare.len() {
-        return make(line, words, data, &mut spare[..room]);
-    }
-    make(line, words, data, spare)
-}
-
-fn make(line: &[u8], words: Words, data: &mut [u8], buffer: &mut [u8]) -> Reply {
-    let name = name_of(words::word(line, words, 1));
-    match name {
-        Name::Ping => probe(Probe::Ping, line, words, buffer),
-        Name::Pong => probe(Probe::Pong, line, words, buffer),
-        Name::FindNode => distances(line, words, data, buffer),
-        Name::FoundNodes => nodes(line, words, data, buffer),
-        Name::FindContent => key(KeyMessage::FindContent, line, words, data, buffer),
-        Name::FoundContent => found(line, words, data, buffer),
-        Name::Offer => key(KeyMessage::Offer, line, words, data, buffer),
-        Name::Accept => key(KeyMessage::Accept, line, words, data, buffer),
-        Name::Store => store(line, words, data, buffer),
-        Name::None => Reply::NoCall,
-    }
-}
-
-fn name_of(word: &[u8]) -> Name {
-    if octets::same(word, b"ping") {
-        return Name::Ping;
-    }
-    if octets::same(word, b"pong") {
-        return Name::Pong;
-    }
-    if octets::same(word, b"findnode") {
-        return Name::FindNode;
-    }
-    if octets::same(word, b"foundnodes") {
-        return Name::FoundNodes;
-    }
-    if octets::same(word, b"store") {
-        return Name::Store;
-    }
-    key_name(word)
-}
-
-fn key_name(word: &[u8]) -> Name {
-    if octets::same(word, b"findcontent") {
-        return Name::FindContent;
-    }
-    if octets::same(word, b"foundcontent") {
-        return Name::FoundContent;
-    }
-    if octets::same(word, b"offer") {
-        return Name::Offer;
-    }
-    if octets::same(word, b"accept") {
-        return Name::Accept;
-    }
-    Name::None
-}
-
-fn told(wrote: Wrote) -> Reply {
-    match wrote {
-        Wrote::Bytes(n) => Reply::Bytes(n),
-        Wrote::Refused(why) => Reply::Refused(why),
-    }
-}
-
-fn probe(kind: Probe, line: &[u8], words: Words, buffer: &mut [u8]) -> Reply {
-    let radius = words::value(words::word(line, words, 2));
-    if words.count != 3 || !radius.good {
-        return Reply::NoCall;
-    }
-    let bytes = radius.bytes;
-    told(message_write::write_probe(kind, bytes, buffer))
-}
-
-fn distances(line: &[u8], words: Words, data: &mut [u8], buffer: &mut [u8]) -> Reply {
-    if words.count != 3 {
-        return Reply::NoCall;
-    }
-    let Decoded::Bytes(n) = words::bytes(words::word(line, words, 2), data) else {
-        return Reply::NoCall;
-    };
-    told(message_write::write_find_node(words::front(data, n), buffer))
-}
-
-fn key(kind: KeyMessage, line: &[u8], words: Words, data: &mut [u8], buffer: &mut [u8]) -> Reply {
-    if words.count != 3 {
-        return Reply::NoCall;
-    }
-    let Decoded::Bytes(n) = words::bytes(words::word(line, words, 2), data) else {
-        return Reply::NoCall;
-    };
-    told(message_write::write_key(kind, words::front(data, n), buffer))
-}
-
-fn store(line: &[u8], words: Words, data: &mut [u8], buffer: &mut [u8]) -> Reply {
-    let connection = words::four(words::word(line, words, 2));
-    if words.count != 4 || !connection.good {
-        return Reply::NoCall;
-    }
-    let id = connection.bytes;
-    let Decoded::Bytes(n) = words::bytes(words::word(line, words, 3), data) else {
-        return Reply::NoCall;
-    };
-    told(message_write::write_store(id, words::front(data, n), buffer))
-}
-
-fn nodes(line: &[u8], words: Words, data: &mut [u8], buffer: &mut [u8]) -> Reply {
-    let total = words::number(words::word(line, words, 2));
-    if words.count < 3 || !total.good {
-        return Reply::NoCall;
-    }
-    if 255 < total.value {
-        return Reply::NoCall;
-    }
-    let lent = records(line, words, 3, data, 0);
-    write_nodes(total.value as u8, lent, data, buffer)
-}
-
-fn write_nodes(total: u8, lent: Lent, data: &[u8], buffer: &mut [u8]) -> Reply {
-    if !lent.good {
-        return Reply::NoCall;
-    }
-    let starts = lent.starts;
-    let lens = lent.lens;
-    let n = lent.count;
-    told(message_write::write_found_nodes(
-        total,
-        data,
-        words::places(&starts, n),
-        words::places(&lens, n),
-        buffer,
-    ))
-}
-
-fn found(line: &[u8], words: Words, data: &mut [u8], buffer: &mut [u8]) -> Reply {
-    let connection = words::four(words::word(line, words, 2));
-    if words.count < 4 || !connection.good {
-        return Reply::NoCall;
-    }
-    let id = connection.bytes;
-    let Decoded::Bytes(n) = words::bytes(words::word(line, words, 3), data) else {
-        return Reply::NoCall;
-    };
-    let lent = records(line, words, 4, data, n);
-    write_found(id, lent, data, n, buffer)
-}
-
-fn write_found(id: [u8; 4], lent: Lent, data: &[u8], content: usize, buffer: &mut [u8]) -> Reply {
-    if !lent.good {
-        return Reply::NoCall;
-    }
-    let starts = lent.starts;
-    let lens = lent.lens;
-    let n = lent.count;
-    let first = words::places(&starts, n);
-    let sizes = words::places(&lens, n);
-    told(message_write::write_found_content(
-        id,
-        data,
-        first,
-        sizes,
-        words::front(data, content),
-        buffer,
-    ))
-}
-
-// The records from a word on, decoded from a place of the buffer on.
-fn records(line: &[u8], words: Words, first: usize, data: &mut [u8], from: usize) -> Lent {
+// The bytes of all words that are left, in the buffer from a place on.
+fn records(words: Words<'_>, data: &mut [u8], from: usize) -> Result<Lent, Fault> {
     let mut lent = Lent {
-        good: true,
         end: from,
         count: 0,
-        starts: [0usize; MOST],
-        lens: [0usize; MOST],
+        starts: [0; MOST],
+        lens: [0; MOST],
     };
-    for k in first..words.count {
-        lent = with_record(lent, words::word(line, words, k), data);
+    for word in words {
+        let room = data.get_mut(lent.end..).ok_or(Fault::NoCall)?;
+        let len = decode(word, room)?;
+        lent.push(len)?;
     }
-    lent
-}
-
-// With one record more: not good where it is no bytes, or has no room.
-fn with_record(lent: Lent, word: &[u8], data: &mut [u8]) -> Lent {
-    let mut next = lent;
-    next.good = false;
-    let at = lent.end;
-    let count = lent.count;
-    if data.len() < at {
-        return next;
-    }
-    if MOST <= count {
-        return next;
-    }
-    let Decoded::Bytes(n) = words::bytes(word, &mut data[at..]) else {
-        return next;
-    };
-    if data.len() - at < n {
-        return next;
-    }
-    next.starts[count] = at;
-    next.lens[count] = n;
-    next.end = at + n;
-    next.count = count + 1;
-    next.good = lent.good;
-    next
+    Ok(lent)
 }

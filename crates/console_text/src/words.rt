@@ -1,186 +1,182 @@
 // The words of a line, which one space separates.
-use hexadecimal::Decoded;
+ghost use Rattle.std.specs.Prelude.{◌≡◌, ◌<◌, ◌≤◌, ◌↔◌, ℕ, List, [], ◌∷◌, length, MatchOption, MatchResult, IsOk, IfOk, count_by, ◌==◌, ◌+◌, take, drop, position, cond, leb};
+ghost use Rattle.console_text.specs.Words.{word_end, words_of};
+
+use crate::fault::Fault;
+use hexadecimal::DecodeError;
+use std::marker::Model;
 
 // How many words a line may have.
 pub const MOST: usize = 40;
 
-// How many words a line has, and where each one ends. A line of more words has a count over MOST.
-#[derive(Clone, Copy)]
-pub struct Words {
-    pub count: usize,
-    pub ends: [usize; MOST],
+// The words that are left of a line.
+#[derive(Drop)]
+pub struct Words<'a> {
+    rest: &'a [u8],
+    left: usize,
 }
 
-pub fn split(line: &[u8]) -> Words {
-    let mut ends = [0usize; MOST];
-    let mut count = 0;
-    for i in 0..line.len() {
-        if line[i] == b' ' && count < MOST {
-            ends[count] = i;
-            count += 1;
+impl<'a> Model for Words<'a> {
+    ghost use Rattle.std.specs.Prelude.{ℕ, List};
+    ghost use Rattle.console_text.specs.Words.{words_in};
+
+    ghost Value = { List (List ℕ) };
+
+    ghost view = { λ w. words_in w.left w.rest.now };
+}
+
+impl<'a> Words<'a> {
+    // The words of a line. A line of more than 40 is no call.
+    #[tactic(auto, using(crate::proofs::Cuts::length_words))]
+    pub fn new(line: &'a [u8]) -> Result<Words<'a>, Fault>
+        ensures { MatchResult result (λ w. w ≡ words_of line.now) (λ _. 40 < length (words_of line.now)) }
+    {
+        let spaces = spaces(line);
+        if MOST <= spaces {
+            return Err(Fault::NoCall);
+        }
+        Ok(Words {
+            rest: line,
+            left: spaces + 1,
+        })
+    }
+
+    // The next word.
+    pub fn word(&mut self) -> Result<&'a [u8], Fault>
+        ensures { MatchResult result (λ w. self.old ≡ w.now ∷ self.new) (λ _. self.old ≡ []) }
+    {
+        self.next().ok_or(Fault::NoCall)
+    }
+
+    // No word is left.
+    #[tactic(auto, using(crate::proofs::Cuts::none_left))]
+    pub fn end(&self) -> Result<(), Fault>
+        ensures { IsOk result ↔ (self.now ≡ []) }
+    {
+        if 0 < self.left {
+            return Err(Fault::NoCall);
+        }
+        Ok(())
+    }
+
+    // A word of N bytes.
+    pub fn value<const N: usize>(&mut self) -> Result<[u8; N], Fault> {
+        let mut bytes = [0u8; N];
+        match hexadecimal::decode(self.word()?, &mut bytes) {
+            Ok(n) if n == N => Ok(bytes),
+            _ => Err(Fault::NoCall),
         }
     }
-    if count < MOST {
-        ends[count] = line.len();
+
+    // A word of any bytes, which are put at the start of a buffer.
+    pub fn bytes<'b>(&mut self, data: &'b mut [u8]) -> Result<&'b [u8], Fault> {
+        let n = decode(self.word()?, data)?;
+        Ok(front(data, n))
     }
-    Words {
-        count: count + 1,
-        ends,
+
+    // A word with a text in it, which is put at the start of a buffer: `|` stands for a line feed, and `-` alone for no text.
+    pub fn text<'b>(&mut self, data: &'b mut [u8]) -> Result<&'b [u8], Fault> {
+        let word = self.word()?;
+        match word {
+            b"" => Err(Fault::NoCall),
+            b"-" => Ok(&[]),
+            _ => unbarred(word, data).ok_or(Fault::NoCall),
+        }
+    }
+
+    // A decimal number of 64 bits, with no zero in front.
+    pub fn number(&mut self) -> Result<u64, Fault> {
+        decimal(self.word()?).ok_or(Fault::NoCall)
     }
 }
 
-// The word of this number, counted from 0; an empty one where there is none.
-pub fn word(line: &[u8], words: Words, k: usize) -> &[u8] {
-    let start = word_start(words, k);
-    if k < MOST {
-        let end = words.ends[k];
-        if start <= end {
-            if end <= line.len() {
-                return &line[start..end];
-            }
-        }
-    }
-    &line[..0]
+fn spaces(line: &[u8]) -> usize
+    ensures { result ≡ count_by (λ c. c == 32) line.now }
+{
+    line.iter().filter(|c| **c == b' ').count()
 }
 
-// Where the word of this number starts: after the space that ends the word before it.
-fn word_start(words: Words, k: usize) -> usize {
-    if 0 < k {
-        if k <= MOST {
-            let end = words.ends[k - 1];
-            if end < usize::MAX {
-                return end + 1;
-            }
+// A text's first word, and the text behind it and a space.
+fn cut(text: &[u8]) -> (&[u8], &[u8])
+    ensures word { result.0.now ≡ take (word_end text.now) text.now }
+    ensures rest { result.1.now ≡ drop (word_end text.now + 1) text.now }
+{
+    match space(text) {
+        Some(n) => (&text[..n], &text[n + 1..]),
+        None => (text, &[]),
+    }
+}
+
+fn space(text: &[u8]) -> Option<usize>
+    ensures { result ≡ position (λ c. c == 32) text.now }
+{
+    text.iter().position(|c| *c == b' ')
+}
+
+impl<'a> Iterator for Words<'a> {
+    ghost use Rattle.std.specs.Iterator.{YieldsFirstBy, item_count};
+
+    type Item = &'a [u8];
+
+    ghost next_gives = { YieldsFirstBy (λ w. w.now) (λ words. words) };
+
+    ghost remaining = { item_count (λ words. words) };
+
+    #[tactic(auto, using(crate::proofs::Cuts::one_word))]
+    fn next(&mut self) -> Option<&'a [u8]> {
+        if self.left == 0 {
+            return None;
+        }
+        let (word, rest) = cut(self.rest);
+        self.rest = rest;
+        self.left -= 1;
+        Some(word)
+    }
+}
+
+// The bytes that a word stands for, at the start of a buffer: lower-case hexadecimal, or `-` for none.
+pub fn decode(word: &[u8], data: &mut [u8]) -> Result<usize, DecodeError> {
+    match word {
+        b"" => Err(DecodeError::NotHex),
+        b"-" => Ok(0),
+        _ => hexadecimal::decode(word, data),
+    }
+}
+
+// A text with a line feed for each `|`.
+fn unbarred<'b>(word: &[u8], data: &'b mut [u8]) -> Option<&'b [u8]> {
+    let text = data.get_mut(..word.len())?;
+    text.copy_from_slice(word);
+    for c in text.iter_mut() {
+        if *c == b'|' {
+            *c = b'\n';
         }
     }
-    0
+    Some(text)
+}
+
+fn decimal(word: &[u8]) -> Option<u64> {
+    if word.is_empty() || word.len() > 1 && word[0] == b'0' {
+        return None;
+    }
+    word.iter().try_fold(0u64, |n, c| {
+        if !c.is_ascii_digit() {
+            return None;
+        }
+        n.checked_mul(10)?.checked_add(u64::from(*c - b'0'))
+    })
 }
 
 // The first n elements, or none where there are fewer.
-pub fn front(s: &[u8], n: usize) -> &[u8] {
-    if n <= s.len() { &s[..n] } else { &s[..0] }
+pub fn front(s: &[u8], n: usize) -> &[u8]
+    ensures { result.now ≡ cond (leb n (length s.now)) (take n s.now) [] }
+{
+    s.get(..n).unwrap_or(&[])
 }
 
 // The elements after the first n, or none where there are fewer.
-pub fn back(s: &[u8], n: usize) -> &[u8] {
-    if n <= s.len() { &s[n..] } else { &s[..0] }
-}
-
-// The part at a place, or nothing where it is not inside.
-pub fn part(s: &[u8], start: usize, len: usize) -> &[u8] {
-    if start <= s.len() {
-        if len <= s.len() - start {
-            return &s[start..start + len];
-        }
-    }
-    &s[..0]
-}
-
-// The bytes that a word stands for, at the start of data: lower-case hexadecimal, or `-` for none.
-pub fn bytes(word: &[u8], data: &mut [u8]) -> Decoded {
-    if word.len() == 0 {
-        return Decoded::NotHex;
-    }
-    if octets::same(word, b"-") {
-        return Decoded::Bytes(0);
-    }
-    hexadecimal::decode(word, data)
-}
-
-// A snapshot's text, at the start of data: `|` stands for a line feed, and `-` alone for no text. Answers its length.
-pub fn unbarred(word: &[u8], data: &mut [u8]) -> usize {
-    if octets::same(word, b"-") {
-        return 0;
-    }
-    if data.len() < word.len() {
-        return 0;
-    }
-    for i in 0..word.len() {
-        data[i] = unbar(word[i]);
-    }
-    word.len()
-}
-
-fn unbar(c: u8) -> u8 {
-    if c == b'|' { b'\n' } else { c }
-}
-
-// A value of 32 bytes, if the word is one.
-#[derive(Clone, Copy)]
-pub struct Bytes32 {
-    pub good: bool,
-    pub bytes: [u8; 32],
-}
-
-pub fn value(word: &[u8]) -> Bytes32 {
-    let mut bytes = [0u8; 32];
-    let decoded = hexadecimal::decode(word, &mut bytes);
-    match decoded {
-        Decoded::Bytes(n) => Bytes32 {
-            good: n == 32,
-            bytes,
-        },
-        Decoded::NotHex => Bytes32 { good: false, bytes },
-        Decoded::NoRoom => Bytes32 { good: false, bytes },
-    }
-}
-
-// Four bytes, if the word is so many.
-#[derive(Clone, Copy)]
-pub struct Bytes4 {
-    pub good: bool,
-    pub bytes: [u8; 4],
-}
-
-pub fn four(word: &[u8]) -> Bytes4 {
-    let mut bytes = [0u8; 4];
-    let decoded = hexadecimal::decode(word, &mut bytes);
-    match decoded {
-        Decoded::Bytes(n) => Bytes4 {
-            good: n == 4,
-            bytes,
-        },
-        Decoded::NotHex => Bytes4 { good: false, bytes },
-        Decoded::NoRoom => Bytes4 { good: false, bytes },
-    }
-}
-
-// A decimal number of 64 bits, with no zero in front.
-#[derive(Clone, Copy)]
-pub struct Decimal {
-    pub good: bool,
-    pub value: u64,
-}
-
-pub fn number(word: &[u8]) -> Decimal {
-    let no = Decimal {
-        good: false,
-        value: 0,
-    };
-    if word.len() == 0 {
-        return no;
-    }
-    if word[0] == b'0' {
-        if 1 < word.len() {
-            return no;
-        }
-    }
-    let mut value = 0u64;
-    for i in 0..word.len() {
-        let c = word[i];
-        if c < b'0' || b'9' < c {
-            return no;
-        }
-        let digit = octets::wide(c - b'0') as u64;
-        if (u64::MAX - digit) / 10 < value {
-            return no;
-        }
-        value = value * 10 + digit;
-    }
-    Decimal { good: true, value }
-}
-
-// The first n places, or none where there are fewer.
-pub fn places(s: &[usize], n: usize) -> &[usize] {
-    if n <= s.len() { &s[..n] } else { &s[..0] }
+pub fn back(s: &[u8], n: usize) -> &[u8]
+    ensures { result.now ≡ drop n s.now }
+{
+    s.get(n..).unwrap_or(&[])
 }

@@ -13,22 +13,12 @@ fn main(rt: HostRuntime) -> io::Result<()> {
     let mut input = [0u8; 65536];
     let mut out = [0u8; 65536];
     let line = list_input(&rt, &mut rt.reader(), &mut input, &mut out)?;
-    let printed = key_lines::last(line);
-    let text = printed.text;
-    write_front(&rt, &text, printed.len)
+    let last = key_lines::last(line);
+    rt.write_all(last.line())
 }
 
-// Writes the first n bytes, which the caller's `text` has.
-fn write_front(rt: &impl Print, text: &[u8], n: usize) -> io::Result<()> {
-    if n <= text.len() {
-        rt.write_all(&text[..n])
-    } else {
-        Ok(())
-    }
-}
-
-// Lists the whole input, and hands back the line that it leaves unended. Nothing says that an input ends, so the loop counts its
-// turns down, from a number that no run uses up.
+// Lists the whole input, and hands back the line that it leaves unended. Nothing says that an input ends, so the loop has a limit, which
+// no run reaches.
 fn list_input(
     rt: &impl Print,
     reader: &mut impl Read,
@@ -38,14 +28,12 @@ fn list_input(
     requires { 65 ≤ length out.old }
 {
     let mut line = key_lines::fresh();
-    let mut turns = u64::MAX;
-    while turns > 0 {
+    for _ in 0..u64::MAX {
         let n = reader.read(input)?;
         if n == 0 {
             break;
         }
         line = list_block(rt, line, &input[..n], out)?;
-        turns -= 1;
     }
     Ok(line)
 }
@@ -55,12 +43,12 @@ fn list_block(rt: &impl Print, line: Line, block: &[u8], out: &mut [u8]) -> io::
     requires { 65 ≤ length out.old }
 {
     let mut line = line;
-    let mut at = 0;
-    while at < block.len() {
-        let listed = key_lines::list(line, &block[at..], out);
-        write_front(rt, out, listed.written)?;
+    let mut rest = block;
+    while !rest.is_empty() {
+        let listed = key_lines::list(line, rest, out);
+        rt.write_all(&out[..listed.written])?;
         line = listed.line;
-        at += listed.used;
+        rest = &rest[listed.used..];
     }
     Ok(line)
 }

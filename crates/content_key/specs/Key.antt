@@ -2,13 +2,10 @@
 -- of a key, and whether a node is interested in it.
 use Rattle.std.specs.Prelude.{ℕ, List, leb, eqb, length, get_or, drop}
 use mathlib.Core.Bool.{Bool, cond}
-use Rattle.refusal.specs.Says.{says_of}
-use Rattle.refusal.specs.Outcome.{Outcome, given, refusal, refused, map_outcome}
+use Rattle.refusal.specs.Outcome.{Outcome, given, refused, map_outcome}
 use Rattle.octets.specs.Bytes.{le}
 use Rattle.distance.specs.Distance.{within_of}
 use Rattle.content_key.specs.Id.{id_of}
-use Rattle.content_key.specs.declared.Interest.{Interest}
-use Rattle.content_key.specs.declared.Interest.TheVariants.{Yes, No, Refused}
 
 -- 0 for a block body, 1 for receipts
 abbrev pub selector_of : List ℕ → ℕ
@@ -33,9 +30,3 @@ content_id_of bytes = map_outcome key_id (key_of bytes)
 -- whether a node with this id and radius is interested in a key: the distance is at most the radius
 abbrev pub interested_in : List ℕ → List ℕ → List ℕ → Outcome Bool
 interested_in node radius bytes = map_outcome (λ (key : List ℕ). within_of node (key_id key) radius) (key_of bytes)
-
--- what an answer of `interested` stands for
-abbrev pub interest_of : Interest → Outcome Bool
-interest_of Yes = given mathlib.Core.Bool.true
-interest_of No = given mathlib.Core.Bool.false
-interest_of (Refused why) = refusal (says_of why)

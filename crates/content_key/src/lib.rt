@@ -2,64 +2,32 @@
 #![tactic(auto)]
 
 ghost use Rattle.std.specs.Prelude.{◌≡◌};
-ghost use Rattle.refusal.specs.Outcome.{outcome, or_zeros};
-ghost use Rattle.content_key.specs.Key.{block_of, key_of, key_id, content_id_of, interested_in, interest_of};
+ghost use Rattle.refusal.specs.Outcome.{outcome_of};
+ghost use Rattle.content_key.specs.Key.{block_of, key_of, key_id, content_id_of, interested_in};
 
-use refusal::{Checked, Refusal};
+use refusal::Refusal;
 
 mod reversed_bytes;
 
-// A key of nine bytes where the input is one, and zeros beside the refusal where it is not.
-#[derive(Clone, Copy)]
-pub struct KeyAnswer {
-    pub checked: Checked,
-    pub key: [u8; 9],
-}
-
-// A content id, or zeros beside the refusal.
-#[derive(Clone, Copy)]
-pub struct IdAnswer {
-    pub checked: Checked,
-    pub id: [u8; 32],
-}
-
-#[derive(Clone, Copy)]
-pub enum Interest {
-    Yes,
-    No,
-    Refused(Refusal),
-}
-
 // Any bytes as a key.
-pub fn key(bytes: &[u8]) -> KeyAnswer
-    ensures key_value { outcome result.checked result.key ≡ key_of bytes.now }
-    ensures key_value_2 { result.key ≡ or_zeros 9 (key_of bytes.now) }
+pub fn key(bytes: &[u8]) -> Result<[u8; 9], Refusal>
+    ensures { outcome_of result ≡ key_of bytes.now }
 {
     if bytes.len() != 9 {
-        return KeyAnswer {
-            checked: Checked::Refused(Refusal::KeyLength),
-            key: [0u8; 9],
-        };
+        return Err(Refusal::KeyLength);
     }
     if 1 < bytes[0] {
-        return KeyAnswer {
-            checked: Checked::Refused(Refusal::KeySelector),
-            key: [0u8; 9],
-        };
+        return Err(Refusal::KeySelector);
     }
-    let key = octets::part9(bytes, 0);
-    KeyAnswer {
-        checked: Checked::Accepted,
-        key,
-    }
+    Ok(octets::part::<9>(bytes, 0))
 }
 
 // The block number of a key: the eight bytes after the selector, lightest first.
 pub fn block(key: [u8; 9]) -> u64
     ensures { result ≡ block_of key }
 {
-    let low = octets::le4(octets::part4(&key, 1));
-    let high = octets::le4(octets::part4(&key, 5));
+    let low = octets::le4(octets::part::<4>(&key, 1));
+    let high = octets::le4(octets::part::<4>(&key, 5));
     (low + 4294967296 * high) as u64
 }
 
@@ -83,46 +51,17 @@ pub fn id(key: [u8; 9]) -> [u8; 32]
 }
 
 // The content id of any bytes as a key.
-pub fn content_id(bytes: &[u8]) -> IdAnswer
-    ensures id_value { outcome result.checked result.id ≡ content_id_of bytes.now }
-    ensures id_value_2 { result.id ≡ or_zeros 32 (content_id_of bytes.now) }
+pub fn content_id(bytes: &[u8]) -> Result<[u8; 32], Refusal>
+    ensures { outcome_of result ≡ content_id_of bytes.now }
 {
-    let read = key(bytes);
-    let checked = read.checked;
-    match checked {
-        Checked::Accepted => {
-            let nine = read.key;
-            let found = id(nine);
-            IdAnswer {
-                checked: Checked::Accepted,
-                id: found,
-            }
-        }
-        Checked::Refused(why) => {
-            let zeros = [0u8; 32];
-            IdAnswer {
-                checked: Checked::Refused(why),
-                id: zeros,
-            }
-        }
-    }
+    let nine = key(bytes)?;
+    Ok(id(nine))
 }
 
 // Whether a node with this id and radius is interested in a key: its distance is at most the radius.
-pub fn interested(node: [u8; 32], radius: [u8; 32], bytes: &[u8]) -> Interest
-    ensures { interest_of result ≡ interested_in node radius bytes.now }
+pub fn interested(node: [u8; 32], radius: [u8; 32], bytes: &[u8]) -> Result<bool, Refusal>
+    ensures { outcome_of result ≡ interested_in node radius bytes.now }
 {
-    let read = key(bytes);
-    let checked = read.checked;
-    match checked {
-        Checked::Accepted => {
-            let nine = read.key;
-            if distance::within(node, id(nine), radius) {
-                Interest::Yes
-            } else {
-                Interest::No
-            }
-        }
-        Checked::Refused(why) => Interest::Refused(why),
-    }
+    let nine = key(bytes)?;
+    Ok(distance::within(node, id(nine), radius))
 }

@@ -3,9 +3,11 @@
 use mathlib.Core.Path.{◌≡◌, refl, sym, ap, ◌∙◌}
 use mathlib.Core.Bool.{Bool, true, false, cond}
 use mathlib.Core.List.{List, ◌∷◌, ◌++◌}
+use Prim.Native.Nat.{ℕ}
+use Rattle.std.specs.Prelude.{Option, Some, None, Result, Ok, Err}
+use Rattle.rlp.specs.declared.Payload.{Payload}
 use Rattle.refusal.specs.Says.{only}
-use Rattle.refusal.specs.declared.Checked.{Checked}
-use Rattle.refusal.specs.declared.Checked.TheVariants.{Accepted, Refused}
+use Rattle.refusal.specs.declared.Refusal.{Refusal}
 use Rattle.runs.specs.Views.{View, Call, Answer, refused, stored, evicted, removed, reloaded}
 use Rattle.runs.specs.Runs.{Part, run, answers}
 use Rattle.key_index.specs.View as index
@@ -15,7 +17,6 @@ use Rattle.key_index.specs.declared.KeyIndex.{KeyIndex}
 use Rattle.key_store.specs.Store.{Storing, store_of}
 use Rattle.key_store.specs.Answer as stores
 use Rattle.key_store.specs.declared.Stored.{Stored}
-use Rattle.key_store.specs.declared.StoreAnswer.{StoreAnswer}
 use Rattle.key_remove.specs.Remove.{Removing, remove_of}
 use Rattle.key_remove.specs.Answer as removes
 use Rattle.snapshot.specs.Load.{Loading, bad_line, loaded, load_of}
@@ -23,7 +24,7 @@ use Rattle.snapshot.specs.Calls as reloads
 use Rattle.demands.specs.Box.{Owner, grouped}
 use Rattle.demands.specs.Setting.{box}
 use Rattle.demands.specs.Step.{after_store, after_remove, after_reload, step}
-use Rattle.demands.specs.Answered.{viewed, store_says, check_says, Answered, storing, removing, reloading, Answers, none, next}
+use Rattle.demands.specs.Answered.{viewed, kept_says, store_says, check_says, Answered, storing, removing, reloading, Answers, none, next}
 
 -- a store call: the view to go on with, and what is said
 abbrev store_does : stores.Given → View box × Answer box
@@ -36,10 +37,13 @@ store_by index (Storing.refused says) = refl
 store_by index (Storing.stored payload v) = refl
 store_by index (Storing.evicted payload key v) = refl
 
-store_said : (r : StoreAnswer) (s : Stored) → store_does (stores.answered_by r s) ≡ (viewed r.index, store_says r.evicted s)
-store_said r (Stored.Kept payload) = refl
-store_said r (Stored.Evicting payload) = refl
-store_said r (Stored.Refused why) = refl
+handed_said : (payload : Payload) (key : Option (List ℕ)) (index : KeyIndex) → store_does (stores.handed_by payload key (view index)) ≡ (viewed index, kept_says key)
+handed_said payload None index = refl
+handed_said payload (Some key) index = refl
+
+store_said : (r : Result Stored Refusal) (index : KeyIndex) → store_does (stores.meaning_of r index) ≡ (viewed index, store_says r)
+store_said (Ok s) index = handed_said s.payload s.evicted index
+store_said (Err why) index = refl
 
 -- a remove call
 abbrev remove_does : removes.Given → View box × Answer box
@@ -50,9 +54,9 @@ remove_by : (index : KeyIndex) (s : Removing) → after_remove (viewed index) s 
 remove_by index (Removing.refused says) = refl
 remove_by index (Removing.removed v) = refl
 
-remove_said : (index : KeyIndex) (s : Checked) → remove_does (removes.answered_by index s) ≡ (viewed index, check_says removed s)
-remove_said index Accepted = refl
-remove_said index (Refused why) = refl
+remove_said : (r : Result (Unit {0}) Refusal) (index : KeyIndex) → remove_does (removes.meaning_of r index) ≡ (viewed index, check_says removed r)
+remove_said (Ok _) index = refl
+remove_said (Err why) index = refl
 
 -- a reload call
 abbrev reload_does : reloads.Reloading → View box × Answer box
@@ -65,18 +69,18 @@ reload_by index true (bad_line line) = refl
 reload_by index true (loaded v) = refl
 reload_by index false l = refl
 
-reload_said : (index : KeyIndex) (s : Checked) → reload_does (reloads.answered_by index s) ≡ (viewed index, check_says reloaded s)
-reload_said index Accepted = refl
-reload_said index (Refused why) = refl
+reload_said : (r : Result (Unit {0}) Refusal) (index : KeyIndex) → reload_does (reloads.meaning_of r index) ≡ (viewed index, check_says reloaded r)
+reload_said (Ok _) index = refl
+reload_said (Err why) index = refl
 
 -- a call that is answered as its contract says is a step: its view, and what it says
 pub answered_step : {index after : KeyIndex} {c : Call box} {a : Answer box} → Answered index c after a → step (viewed index) c ≡ (viewed after, a)
-answered_step {index} (storing {raw = raw} {brought = brought} r e) =
-    store_by index (store_of key_limit (view index) raw.bytes brought.content brought.newest) ∙ ap store_does (sym e) ∙ store_said r r.stored
-answered_step {index} (removing {raw = raw} r e) =
-    remove_by index (remove_of key_limit (view index) raw.bytes) ∙ ap remove_does (sym e) ∙ remove_said r.index r.checked
-answered_step {index} (reloading {text = text} r e) =
-    reload_by index (good key_limit (view index)) (load_of text) ∙ ap reload_does (sym e) ∙ reload_said r.index r.checked
+answered_step {index} (storing {raw = raw} {brought = brought} r after e) =
+    store_by index (store_of key_limit (view index) raw.bytes brought.content brought.newest) ∙ ap store_does (sym e) ∙ store_said r after
+answered_step {index} (removing {raw = raw} r after e) =
+    remove_by index (remove_of key_limit (view index) raw.bytes) ∙ ap remove_does (sym e) ∙ remove_said r after
+answered_step {index} (reloading {text = text} r after e) =
+    reload_by index (good key_limit (view index)) (load_of text) ∙ ap reload_does (sym e) ∙ reload_said r after
 
 -- the views follow the run
 pub answered_run : {index last : KeyIndex} {cs : List (Call box)} {told : List (Answer box)} → Answers index cs last told

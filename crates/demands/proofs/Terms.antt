@@ -26,7 +26,8 @@ use Rattle.key_index.proofs.Rules.{good_facts, facts_good}
 use Rattle.key_store.specs.Store.{examine_of}
 use Rattle.key_store.specs.Cases.{OfBytes}
 use Rattle.key_store.proofs.Answers.{examine_known, examined_given}
-use Rattle.key_store.proofs.Facts.{sorted_near, near_sorted, last_apart, reach_room, reach_full}
+use Rattle.key_index.proofs.Answers.{reach_room, reach_full}
+use Rattle.key_store.proofs.Facts.{sorted_near, near_sorted, last_apart}
 use Rattle.snapshot.specs.Load.{Loading, bad_line, loaded, load_of}
 use Rattle.snapshot.specs.Shape.{Shaped, Saved}
 use Rattle.snapshot.proofs.Forms.{accepted_iff, accepted_good}

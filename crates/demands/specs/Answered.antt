@@ -1,18 +1,14 @@
--- A run of calls of the code, each answered as its contract says and each handed the index of the answer before it.
-use Rattle.std.specs.Prelude.{ℕ, ◌≡◌, List, [], ◌∷◌}
+-- A run of calls of the code, each answered as its contract says and each on the index that the one before it left.
+use Rattle.std.specs.Prelude.{ℕ, ◌≡◌, List, [], ◌∷◌, Option, Some, None, Result, Ok, Err}
 use Rattle.refusal.specs.Says.{says_of}
-use Rattle.refusal.specs.declared.Checked.{Checked}
-use Rattle.refusal.specs.declared.Checked.TheVariants.{Accepted, Refused}
+use Rattle.refusal.specs.declared.Refusal.{Refusal}
 use Rattle.runs.specs.Views.{View, Call, store, remove, reload, Answer, refused, stored, evicted, removed, reloaded}
 use Rattle.key_index.specs.View.{key_limit, view}
 use Rattle.key_index.specs.declared.KeyIndex.{KeyIndex}
 use Rattle.key_store.specs.Answer as stores
 use Rattle.key_store.specs.declared.Stored.{Stored}
-use Rattle.key_store.specs.declared.StoreAnswer.{StoreAnswer}
 use Rattle.key_remove.specs.Answer as removes
-use Rattle.key_remove.specs.declared.RemoveAnswer.{RemoveAnswer}
 use Rattle.snapshot.specs.Calls as reloads
-use Rattle.snapshot.specs.declared.ReloadAnswer.{ReloadAnswer}
 use Rattle.demands.specs.Box.{Raw, Brought, grouped}
 use Rattle.demands.specs.Setting.{box}
 
@@ -20,26 +16,30 @@ use Rattle.demands.specs.Setting.{box}
 abbrev pub viewed : KeyIndex → View box
 viewed index = grouped (view index)
 
--- what an answer of `store` says, beside its index
-abbrev pub store_says : List ℕ → Stored → Answer box
-store_says key (Stored.Kept payload) = stored
-store_says key (Stored.Evicting payload) = evicted key
-store_says key (Stored.Refused why) = refused (says_of why)
+-- what an accepted answer of `store` says, by the key that left
+abbrev pub kept_says : Option (List ℕ) → Answer box
+kept_says None = stored
+kept_says (Some key) = evicted key
+
+-- what an answer of `store` says, beside the index afterwards
+abbrev pub store_says : Result Stored Refusal → Answer box
+store_says (Ok s) = kept_says s.evicted
+store_says (Err why) = refused (says_of why)
 
 -- what an answer of `remove` or `reload` says, given the word for accepted
-abbrev pub check_says : Answer box → Checked → Answer box
-check_says word Accepted = word
-check_says word (Refused why) = refused (says_of why)
+abbrev pub check_says : Answer box → Result (Unit {0}) Refusal → Answer box
+check_says word (Ok _) = word
+check_says word (Err why) = refused (says_of why)
 
--- index, call, the index in the answer, what the answer says: the answer meets the contract of the call
+-- index, call, the index afterwards, what the answer says: the answer meets the contract of the call
 pub data Answered (index : KeyIndex) : Call box → KeyIndex → Answer box → Type 0 where
-  storing : {raw : Raw} {brought : Brought} (r : StoreAnswer)
-      → stores.meaning_of r ≡ stores.store_for key_limit index raw.bytes brought.content brought.newest
-      → Answered index (store raw brought) r.index (store_says r.evicted r.stored)
-  removing : {raw : Raw} (r : RemoveAnswer) → removes.meaning_of r ≡ removes.remove_for key_limit index raw.bytes
-      → Answered index (remove raw) r.index (check_says removed r.checked)
-  reloading : {text : List ℕ} (r : ReloadAnswer) → reloads.meaning_of r ≡ reloads.reload_for key_limit index text
-      → Answered index (reload text) r.index (check_says reloaded r.checked)
+  storing : {raw : Raw} {brought : Brought} (r : Result Stored Refusal) (after : KeyIndex)
+      → stores.meaning_of r after ≡ stores.store_for key_limit index raw.bytes brought.content brought.newest
+      → Answered index (store raw brought) after (store_says r)
+  removing : {raw : Raw} (r : Result (Unit {0}) Refusal) (after : KeyIndex) → removes.meaning_of r after ≡ removes.remove_for key_limit index raw.bytes
+      → Answered index (remove raw) after (check_says removed r)
+  reloading : {text : List ℕ} (r : Result (Unit {0}) Refusal) (after : KeyIndex) → reloads.meaning_of r after ≡ reloads.reload_for key_limit index text
+      → Answered index (reload text) after (check_says reloaded r)
 
 -- one call after another: first index, calls, last index, what the answers say
 pub data Answers : KeyIndex → List (Call box) → KeyIndex → List (Answer box) → Type 0 where

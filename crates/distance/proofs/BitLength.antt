@@ -4,18 +4,24 @@ use Prim.Native.Nat.{ℕ, zero, suc, ◌+◌, ◌*◌, ◌-◌, ◌^◌, ◌≤�
 use native.Mathlib.Nat.{not-suc-le-zero, not-le_of_lt, lt_of_not-le, lt_of_le_of_lt, pow-succ', mul-le-mul_right, mul_comm, add-suc, one-le-pow}
 use native.Mathlib.Omega.{arith}
 use mathlib.Core.Path.{◌≡◌, refl, sym, ap, ◌∙◌, subst}
-use mathlib.Core.Bool.{Bool, true, false, cond}
-use mathlib.Core.List.{List, ◌∷◌}
-use lib.Dec.{leb, lit<}
+use mathlib.Core.Bool.{Bool, true, false, cond, not}
+use mathlib.Core.List.{List, [], ◌∷◌}
+use lib.Dec.{leb, eqb, ltb, lit<}
 use lib.Arith.{digits_lt}
-use lib.Count.{count_leading_zeros, leading_top}
+use lib.Count.{count_leading_zeros, leading_top, leading_le}
 use lib.Pow.{pow_mono, pow-add}
-use lib.ListN.{length}
-use borrow.Author.Tests.{leb-true, leb-false}
+use lib.ListN.{length, get_or, drop, length-drop, drop_of_length-le}
+use lib.Seq.{drop-cons}
+use borrow.Author.Tests.{leb-true, leb-false, eqb-true, eqb-false, not-true, not-false, ltb-false}
+use Rattle.std.proofs.Common.{Option, Some, None}
+use Rattle.std.specs.List.{position, position_or_len}
+use Rattle.std.proofs.lemmas.List.Quantifiers.{position-Some}
+use Rattle.std.proofs.lemmas.Option.{none-some}
+use Rattle.std.proofs.lemmas.List.Sums.{fails_before_first}
 use Rattle.octets.specs.Bytes.{Bytes, be}
 use Rattle.distance.specs.Distance.{bit_length}
 use Rattle.distance.specs.Before.{log_below}
-use Rattle.octets.proofs.Numbers.{be_lt}
+use Rattle.octets.proofs.Numbers.{be_lt, be_zero_first, bytes_at_lem, bytes_drop}
 
 -- powers of two are in the order of their exponents
 pow_below : {i j : ℕ} → 2 ^ i < 2 ^ j → i < j
@@ -114,3 +120,44 @@ bits_first w x xs p h hs l =
     bits_unique w (x * 256 ^ length xs + be xs) (8 * length xs + k) (omega (arith, pow_head (length xs) k))
     (omega (arith, ap (λ (m : ℕ). 2 ^ m) (add-suc (8 * length xs) k), pow_head (length xs) (suc k))) (omega arith) in
     omega arith
+
+-- bytes of 0 at the front leave the number to the rest
+zeros_passed : (d : List ℕ) (i : ℕ) → ((k : ℕ) → k < i → get_or d k 0 ≡ 0) → be d ≡ be (drop i d)
+zeros_passed [] zero h = refl
+zeros_passed [] (suc i) h = refl
+zeros_passed (x ∷ d) zero h = refl
+zeros_passed (x ∷ d) (suc i) h =
+    ap (λ (y : ℕ). be (y ∷ d)) (h 0 (omega arith)) ∙ be_zero_first d ∙ zeros_passed d i (λ k l. h (suc k) (omega arith))
+
+-- a byte is looked for that is not 0: one that fails the test is
+not_set : (x : ℕ) → not (eqb x 0) ≡ false → x ≡ 0
+not_set x e = eqb-true x 0 (not-false (eqb x 0) e)
+
+-- the first byte that is not 0 gives the bit length, with the bytes in front of it
+pub bits_found : (d : List ℕ) (at : ℕ) → position (λ x. not (eqb x 0)) d ≡ Some at → Bytes d → length d ≡ 32
+    → (at < 32) × (count_leading_zeros 8 (get_or d at 0) + 8 * at + bit_length 256 (be d) ≡ 256) × (count_leading_zeros 8 (get_or d at 0) ≤ 8)
+bits_found d at e b l =
+    let first = position-Some (λ x. not (eqb x 0)) d at 0 e in
+    let set : 0 < get_or d at 0 = omega (arith, eqb-false (get_or d at 0) 0 (not-true (eqb (get_or d at 0) 0) first.1)) in
+    let n : length (drop (suc at) d) ≡ length d - suc at = length-drop (suc at) d in
+    let passed : be d ≡ be (get_or d at 0 ∷ drop (suc at) d) =
+    zeros_passed d at (λ k h. not_set _ (first.2 k h)) ∙ ap be (drop-cons d at 0 first.0) in
+    let bits = bits_first 256 (get_or d at 0) (drop (suc at) d) set (bytes_at_lem d b at) (bytes_drop (suc at) d b) (omega arith) in
+    (omega arith, omega (arith, ap (bit_length 256) passed), leading_le 8 (get_or d at 0))
+
+-- where there is none, there are no bits
+pub bits_not_found : (d : List ℕ) → position (λ x. not (eqb x 0)) d ≡ None → bit_length 256 (be d) ≡ 0
+unfolding be
+bits_not_found d e =
+    ap (bit_length 256)
+    (zeros_passed d (length d) (λ k h. not_set _ (fails_before_first (λ x. not (eqb x 0)) d k 0 (none_past d k e h)))
+    ∙ ap be (drop_of_length-le d {i = length d} (omega arith)))
+    ∙ bits_none 256
+  where
+    none_past : (d : List ℕ) (k : ℕ) → position (λ x. not (eqb x 0)) d ≡ None → k < length d → k < position_or_len (λ x. not (eqb x 0)) d
+    none_past d k e h = go (ltb (position_or_len (λ x. not (eqb x 0)) d) (length d)) refl e
+      where
+        go : (t : Bool) → ltb (position_or_len (λ x. not (eqb x 0)) d) (length d) ≡ t
+            → ◌≡◌ {A = Option ℕ} (cond t (Some (position_or_len (λ x. not (eqb x 0)) d)) None) None → k < position_or_len (λ x. not (eqb x 0)) d
+        go true q f = absurd (none-some (position_or_len (λ x. not (eqb x 0)) d) (sym f))
+        go false q f = omega (arith, ltb-false _ _ q)

@@ -42,14 +42,16 @@ xor_of_length [] b l = refl
 xor_of_length (x ∷ a) [] l = absurd (suc-ne-zero (length a) l)
 xor_of_length (x ∷ a) (y ∷ b) l = ap suc (xor_of_length a b (suc_inj l))
 
--- each byte of the exclusive or, also past the end
-pub xor_of_at : (a b : List ℕ) → length a ≡ length b → (i : ℕ) → get_or (xor_of a b) i 0 ≡ bit_xor (get_or a i 0) (get_or b i 0)
+-- equally many bytes, each the exclusive or of the two there, are the exclusive or
+pub xor_of_each : (a b d : List ℕ) → length a ≡ length b → length d ≡ length a
+    → ((i : ℕ) → i < length d → get_or d i 0 ≡ bit_xor (get_or a i 0) (get_or b i 0)) → d ≡ xor_of a b
 unfolding xor_of
-xor_of_at [] [] l i = refl
-xor_of_at [] (y ∷ b) l i = absurd (suc-ne-zero (length b) (sym l))
-xor_of_at (x ∷ a) [] l i = absurd (suc-ne-zero (length a) l)
-xor_of_at (x ∷ a) (y ∷ b) l zero = refl
-xor_of_at (x ∷ a) (y ∷ b) l (suc i) = xor_of_at a b (suc_inj l) i
+xor_of_each [] b [] l m h = refl
+xor_of_each [] b (z ∷ d) l m h = absurd (suc-ne-zero (length d) m)
+xor_of_each (x ∷ a) b [] l m h = absurd (suc-ne-zero (length a) (sym m))
+xor_of_each (x ∷ a) [] (z ∷ d) l m h = absurd (suc-ne-zero (length a) l)
+xor_of_each (x ∷ a) (y ∷ b) (z ∷ d) l m h =
+    ap₂ (λ (w : ℕ) (ws : List ℕ). w ∷ ws) (h 0 (omega arith)) (xor_of_each a b d (suc_inj l) (suc_inj m) (λ i k. h (suc i) (omega arith)))
 
 -- the exclusive or of bytes is bytes
 pub xor_of_bytes : (a b : List ℕ) → Bytes a → Bytes b → Bytes (xor_of a b)
@@ -93,10 +95,6 @@ distance_inj node a b l m hn ha hb e =
     xor_of_inj node a b l m
     (be_inj (xor_of node a) (xor_of node b) (xor_of_length node a l ∙ sym (xor_of_length node b m)) (xor_of_bytes node a hn ha)
     (xor_of_bytes node b hn hb) e)
-
--- the distance is the same both ways
-pub distance_comm : (a b : List ℕ) → distance_of a b ≡ distance_of b a
-distance_comm a b = ap be (xor_of_comm a b)
 
 -- an id is at distance 0 from itself
 pub distance_self : (a : List ℕ) → distance_of a a ≡ 0

@@ -1,38 +1,31 @@
 -- What a FindNode asks for: the turns of the search that `asked` makes, what its answer means, and that 256 is never asked for and 0 draws
 -- no neighbour. Assumes nothing.
-use Prim.Native.Nat.{ℕ, ◌+◌, ◌≤◌, ◌<◌}
+use Prim.Native.Nat.{ℕ, ◌≤◌, ◌<◌}
 use native.Mathlib.Omega.{arith}
-use mathlib.Core.Path.{◌≡◌, refl, ap, ◌∙◌}
-use mathlib.Core.Bool.{Bool, true, false, ◌&&◌, ◌||◌, and-eq-true_iff, and-false}
+use mathlib.Core.Path.{◌≡◌, refl, ap, ap₂, ◌∙◌}
+use mathlib.Core.Bool.{Bool, true, false, ◌&&◌, ◌||◌, and-eq-true_iff}
 use mathlib.Core.Logic.{◌↔◌}
 use mathlib.Core.List.{List, [], ◌∷◌, ◌++◌, Memᴰ}
 use lib.Dec.{eqb, leb}
-use lib.ListN.{length, get_or, drop}
+use lib.ListN.{length}
 use borrow.Author.Tests.{eqb-true, eq-eqb, ne_eqb, leb-true, le-leb}
 use Rattle.octets.specs.Bytes.{Bytes}
 use Rattle.octets.specs.Equal.{holds}
-use Rattle.octets.proofs.Equal.{found_member, member_found, holds_left, holds_end}
+use Rattle.octets.proofs.Equal.{found_member, member_found}
+use Rattle.std.specs.List.{list_any}
+use Rattle.std.proofs.lemmas.Cmp.{nat_eq_equiv}
 use Rattle.distance.specs.Distance.{log_distance_of, asked_of}
 use Rattle.distance.proofs.LogDistances.{log_zero}
 
--- the search for a log distance among the distances, with i of them passed
-module _ (ds : List ℕ) (log i : ℕ) where
-  -- the distance there is the one: it is asked for, since a distance is a byte
-  pub asked_here : i < length ds → log ≡ get_or ds i 0 → get_or ds i 0 < 256 → holds eqb log ds ≡ holds eqb log (drop i ds) → asked_of ds log ≡ true
-  asked_here h e small rest =
-      let fits : leb log 255 ≡ true = le-leb log 255 (omega arith) in
-      let one : holds eqb log ds ≡ true = rest ∙ holds_left eqb log ds i 0 h ∙ rw (eq-eqb log (get_or ds i 0) e) in
-      rw (fits, one)
+-- the search of std, which compares the other way round
+holds_any : (ds : List ℕ) (log : ℕ) → list_any (λ d. eqb d log) ds ≡ holds eqb log ds
+unfolding holds
+holds_any [] log = refl
+holds_any (d ∷ ds) log = ap₂ (λ (s t : Bool). s || t) (nat_eq_equiv.symm d log) (holds_any ds log)
 
-  -- it is another: the rest is left
-  pub asked_later : i < length ds → (log ≡ get_or ds i 0 → ⊥) → holds eqb log ds ≡ holds eqb log (drop i ds) → holds eqb log ds ≡ holds eqb log (drop (i + 1) ds)
-  asked_later h n rest = rest ∙ holds_left eqb log ds i 0 h ∙ rw (ne_eqb log (get_or ds i 0) n)
-
-  -- none is left: it is not asked for
-  pub asked_end : length ds ≤ i → holds eqb log ds ≡ holds eqb log (drop i ds) → asked_of ds log ≡ false
-  asked_end h rest =
-      let none : holds eqb log ds ≡ false = rest ∙ holds_end eqb log ds i h in
-      rw none (and-false (leb log 255))
+-- what it finds of a log distance that fits a byte is asked for
+pub asked_any : (ds : List ℕ) (log w : ℕ) (r : Bool) → r ≡ list_any (λ d. eqb d w) ds → w ≡ log → w < 256 → r ≡ asked_of ds log
+asked_any ds log w r f e h = f ∙ holds_any ds w ∙ rw (e, le-leb log 255 (omega arith))
 
 equal : (m n : ℕ) → (eqb m n ≡ true) ↔ (m ≡ n)
 equal m n = (eqb-true m n, eq-eqb m n)

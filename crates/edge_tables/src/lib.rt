@@ -5,9 +5,9 @@ use routing_table::{Contact, ENTRIES, Entry, RECORD, REPLACEMENTS, RoutingTable}
 
 // The id that differs from our own by a and b in its last two bytes: where a is not 0, its log distance is 8 and the bit length of a.
 pub fn id(a: u8, b: u8) -> [u8; 32] {
-    let mut id = [90u8; 32];
-    id[30] = 90 ^ a;
-    id[31] = 90 ^ b;
+    let mut id = [90; 32];
+    id[30] ^= a;
+    id[31] ^= b;
     id
 }
 
@@ -31,7 +31,7 @@ pub fn sized(a: u8, b: u8, len: usize) -> Contact {
 }
 
 pub fn none() -> RoutingTable {
-    routing_table::fresh([90u8; 32])
+    RoutingTable::fresh([90; 32])
 }
 
 // Two full log distances with 4 replacements and 1, and a third with one entry.
@@ -52,19 +52,17 @@ pub fn most() -> RoutingTable {
 }
 
 // The table with an entry more, if there is a place.
+// Kept: no plainer, each table is an expression over another one, as `most` shows.
 pub fn entry(table: RoutingTable, a: u8, b: u8, failures: u8) -> RoutingTable {
     entry_of(table, contact(a, b), failures)
 }
 
-pub fn entry_of(table: RoutingTable, contact: Contact, failures: u8) -> RoutingTable {
-    let at = table.count;
-    if ENTRIES <= at {
-        return table;
+pub fn entry_of(mut table: RoutingTable, contact: Contact, failures: u8) -> RoutingTable {
+    if table.count < ENTRIES {
+        table.entries[table.count] = Entry { contact, failures };
+        table.count += 1;
     }
-    let mut next = table;
-    next.entries[at] = Entry { contact, failures };
-    next.count = at + 1;
-    next
+    table
 }
 
 // The table with a replacement more, if there is a place.
@@ -72,41 +70,29 @@ pub fn replacement(table: RoutingTable, a: u8, b: u8) -> RoutingTable {
     replacement_of(table, contact(a, b))
 }
 
-pub fn replacement_of(table: RoutingTable, contact: Contact) -> RoutingTable {
-    let at = table.waiting;
-    if REPLACEMENTS <= at {
-        return table;
+pub fn replacement_of(mut table: RoutingTable, contact: Contact) -> RoutingTable {
+    if table.waiting < REPLACEMENTS {
+        table.replacements[table.waiting] = contact;
+        table.waiting += 1;
     }
-    let mut next = table;
-    next.replacements[at] = contact;
-    next.waiting = at + 1;
-    next
+    table
 }
 
 // The table with the first n of one kind as entries.
 pub fn entries(table: RoutingTable, a: u8, n: u8) -> RoutingTable {
-    let mut next = table;
-    for b in 0..n {
-        next = entry(next, a, b, b % 4);
-    }
-    next
+    (0..n).fold(table, |next, b| entry(next, a, b, b % 4))
 }
 
 // The table with those from 16 up to n of one kind as replacements.
 pub fn replacements(table: RoutingTable, a: u8, n: u8) -> RoutingTable {
-    let mut next = table;
-    for b in 16..n {
-        next = replacement(next, a, b);
-    }
-    next
+    (16..n).fold(table, |next, b| replacement(next, a, b))
 }
 
 // The table with other counts.
-pub fn counted(table: RoutingTable, count: usize, waiting: usize) -> RoutingTable {
-    let mut next = table;
-    next.count = count;
-    next.waiting = waiting;
-    next
+pub fn counted(mut table: RoutingTable, count: usize, waiting: usize) -> RoutingTable {
+    table.count = count;
+    table.waiting = waiting;
+    table
 }
 
 // The table with the counts of `some`: what was added to that stands in unused places.
@@ -121,17 +107,9 @@ pub fn one_more(table: RoutingTable, len: usize) -> RoutingTable {
 }
 
 // The table with other bytes behind the record of its first entry.
-pub fn other_bytes(table: RoutingTable) -> RoutingTable {
-    let first = table.entries[0];
-    let mut contact = first.contact;
-    let mut enr = contact.enr;
+pub fn other_bytes(mut table: RoutingTable) -> RoutingTable {
+    let enr = &mut table.entries[0].contact.enr;
     enr[2] = 9;
     enr[299] = 9;
-    contact.enr = enr;
-    let mut next = table;
-    next.entries[0] = Entry {
-        contact,
-        failures: first.failures,
-    };
-    next
+    table
 }

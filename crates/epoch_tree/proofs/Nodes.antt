@@ -3,14 +3,14 @@ use Prim.Native.Nat.{ℕ, zero, suc, ◌+◌, ◌*◌, ◌-◌, ◌/◌, ◌%◌
 use native.Mathlib.Numerals.{add-one}
 use native.Mathlib.Omega.{arith}
 use mathlib.Core.Path.{◌≡◌, refl, sym, ap, ap₂, ◌∙◌}
-use mathlib.Core.Bool.{Bool, cond}
-use mathlib.Core.List.{List, ◌∷◌}
-use lib.ListN.{length, take, drop, replicate}
-use borrow.Author.Tests.{eq-eqb, ne_eqb}
+use mathlib.Core.List.{List, [], ◌∷◌}
+use lib.ListN.{length, get_or, replicate}
+use Rattle.std.specs.Simd.{first_chunks}
+use Rattle.octets.proofs.Parts.{chunk_at}
 use Rattle.octets.specs.Bytes.{le_bytes}
 use Rattle.sha256.specs.Hash.{sha256}
 use Rattle.accumulator.specs.Tree.{parent, tree_node, empty_node, beside, siblings}
-use Rattle.accumulator.specs.Records.{record_count, record_root, count_chunk, epoch_root}
+use Rattle.accumulator.specs.Records.{record_root, count_chunk, epoch_root}
 use Rattle.accumulator.proofs.Trees.{node_empty}
 use Rattle.accumulator.proofs.Epochs.{root_behind, root_hash}
 
@@ -39,25 +39,18 @@ module _ (leaf : ℕ → List ℕ) where
       ap (λ (n : ℕ). siblings leaf n height place) more
       ∙ ap (λ (h : ℕ). tree_node leaf height (beside place) ∷ siblings leaf (13 - (height + 1)) h (place / 2)) next
 
--- the place of a sibling
-pub beside_even : (place made : ℕ) → place % 2 ≡ 0 → made ≡ place + 1 → made ≡ beside place
-unfolding beside
-beside_even place made even is = is ∙ sym (ap (λ (t : Bool). cond t (place + 1) (place - 1)) (eq-eqb (place % 2) 0 even))
-
-pub beside_odd : (place made : ℕ) → (place % 2 ≡ 0 → ⊥) → made ≡ place - 1 → made ≡ beside place
-unfolding beside
-beside_odd place made odd is = is ∙ sym (ap (λ (t : Bool). cond t (place + 1) (place - 1)) (ne_eqb (place % 2) 0 odd))
-
 -- one level of zeros more
 pub empty_next : (n : ℕ) (node left right above : List ℕ) → node ≡ empty_node n → above ≡ parent left right → left ≡ node → right ≡ node → above ≡ empty_node (n + 1)
 unfolding empty_node
 empty_next n node left right above e is l r = is ∙ ap₂ parent (l ∙ e) (r ∙ e) ∙ ap empty_node (sym (add-one n))
 
 -- the hash of a record is its root
-pub record_hash : (records : List ℕ) (position : ℕ) → position < record_count records → (made : List ℕ) (n start : ℕ) → made ≡ sha256 (take n (drop start records))
-    → n ≡ 64 → start ≡ 64 * position → made ≡ record_root records position
-record_hash records position there made n start is e f =
-    is ∙ ap₂ (λ (k s : ℕ). sha256 (take k (drop s records))) e f ∙ sym (root_hash records position there)
+pub record_hash : (records : List ℕ) (parts : List (List ℕ)) → parts ≡ first_chunks 64 (length records / 64) records → (position : ℕ) → position < length parts
+    → length parts ≡ length records / 64 → (one made : List ℕ) → one ≡ get_or parts position [] → made ≡ sha256 one → made ≡ record_root records position
+record_hash records parts are position there size one made e is =
+    is
+    ∙ ap sha256 (e ∙ ap (λ (l : List (List ℕ)). get_or l position []) are ∙ chunk_at 64 (length records / 64) records position (omega arith))
+    ∙ sym (root_hash records position (omega arith))
 
 -- a node that begins behind the last record is an empty one
 pub records_end : (records : List ℕ) (last : ℕ) → last ≡ length records / 64 - 1 → (height place : ℕ) → last / 2 ^ height < place
@@ -66,12 +59,14 @@ records_end records last is height place behind =
     sym (node_empty (record_root records) last (λ (p : ℕ) (h : last < p). root_behind records p (omega (arith, is, h))) height place behind)
 
 -- a number of two bytes as a chunk
-pub count_bytes : (n : ℕ) → n < 65536 → n % 256 ∷ n / 256 ∷ replicate 30 0 ≡ le_bytes 32 n
+pub count_bytes : (n low high : ℕ) → n < 65536 → low ≡ n % 256 → high ≡ n / 256 % 256 → low ∷ high ∷ replicate 30 0 ≡ le_bytes 32 n
 unfolding le_bytes
-count_bytes n small =
-    let high : n / 256 ≡ n / 256 % 256 = omega arith in
+count_bytes n low high small l h =
     let none : 0 ≡ n / 256 / 256 = omega arith in
-    ap₂ (λ (x y : ℕ). n % 256 ∷ x ∷ le_bytes 30 y) high none
+    l_h l h ∙ ap (λ (x : ℕ). n % 256 ∷ n / 256 % 256 ∷ le_bytes 30 x) none
+  where
+    l_h : low ≡ n % 256 → high ≡ n / 256 % 256 → ◌≡◌ {A = List ℕ} (low ∷ high ∷ replicate 30 0) (n % 256 ∷ n / 256 % 256 ∷ replicate 30 0)
+    l_h p q = cc
 
 -- the root, of the tree and the number of records
 pub root_made : (records made left right : List ℕ) → made ≡ parent left right → left ≡ tree_node (record_root records) 13 0 → right ≡ count_chunk records → made ≡ epoch_root records

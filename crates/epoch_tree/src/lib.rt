@@ -6,7 +6,7 @@ ghost use Rattle.refusal.specs.Buffer.{Writes};
 ghost use Rattle.accumulator.specs.Tree.{tree_node, empty_node, beside};
 ghost use Rattle.accumulator.specs.Records.{are_records, record_count, record_root, count_chunk, epoch_proof, flat, root_of, proof_of};
 
-use refusal::{Refusal, Wrote};
+use refusal::Refusal;
 
 // The bytes of a record: a block hash, and a total difficulty.
 const RECORD: usize = 64;
@@ -15,76 +15,69 @@ const RECORD: usize = 64;
 const PROOF: usize = 480;
 
 // Writes the root of the records at the start of a buffer. Nothing is written on a refusal.
-pub fn root(records: &[u8], out: &mut [u8]) -> Wrote
+pub fn root(records: &[u8], out: &mut [u8]) -> Result<usize, Refusal>
     ensures { Writes (root_of records.now (length out.old)) result out.old out.new }
 {
     if !are_records(records) {
-        return Wrote::Refused(Refusal::InputLength);
+        return Err(Refusal::InputLength);
     }
     if out.len() < 32 {
-        return Wrote::Refused(Refusal::ShortBuffer);
+        return Err(Refusal::ShortBuffer);
     }
     let tree = node(records, 13, 0);
     let count = count_chunk(records);
     let root = accumulator::parent(tree, count);
     octets::put(&root, out, 0);
-    Wrote::Bytes(32)
+    Ok(32)
 }
 
 // Writes the 15 siblings of the block hash at a position at the start of a buffer. Nothing is written on a refusal.
-pub fn proof(records: &[u8], position: u64, out: &mut [u8]) -> Wrote
+pub fn proof(records: &[u8], position: u64, out: &mut [u8]) -> Result<usize, Refusal>
     ensures { Writes (proof_of records.now position (length out.old)) result out.old out.new }
 {
     if !are_records(records) {
-        return Wrote::Refused(Refusal::InputLength);
+        return Err(Refusal::InputLength);
     }
     let count = (records.len() / RECORD) as u64;
     if count <= position {
-        return Wrote::Refused(Refusal::NoSuchPlace);
+        return Err(Refusal::NoSuchPlace);
     }
     if out.len() < PROOF {
-        return Wrote::Refused(Refusal::ShortBuffer);
+        return Err(Refusal::ShortBuffer);
     }
     let siblings = siblings(records, position as usize);
-    octets::put(&siblings, out, 0);
-    Wrote::Bytes(PROOF)
+    octets::put(siblings.as_flattened(), out, 0);
+    Ok(PROOF)
 }
 
 // Whether the bytes are 1 to 8,192 records.
+#[tactic(auto, using(std::proofs::lemmas::Bool::Decides::nat_tests), unfolding(accumulator::specs::Records::are_records))]
 fn are_records(records: &[u8]) -> bool
     ensures { result ≡ are_records records.now }
 {
     let size = records.len();
-    if size < RECORD {
-        return false;
-    }
-    if 8192 * RECORD < size {
-        return false;
-    }
-    size % RECORD == 0
+    RECORD <= size && size <= 8192 * RECORD && size % RECORD == 0
 }
 
 // The siblings of the block hash at a position, the lowest first.
-fn siblings(records: &[u8], position: usize) -> [u8; PROOF]
+fn siblings(records: &[u8], position: usize) -> [[u8; 32]; 15]
     requires records_value { are_records records.now ≡ true }
     requires position_bound { position < record_count records.now }
-    ensures { result ≡ flat (epoch_proof records.now position) }
+    ensures { result ≡ epoch_proof records.now position }
 {
-    let mut out = [0u8; PROOF];
-    let difficulty = octets::part32(records, RECORD * position + 32);
-    octets::put(&difficulty, &mut out, 0);
+    let mut out = [[0u8; 32]; 15];
+    out[0] = octets::part::<32>(records, RECORD * position + 32);
     let mut place = position;
     for height in 0..13 {
-        let sibling = node(records, height, beside(place));
-        octets::put(&sibling, &mut out, 32 * height + 32);
+        out[height + 1] = node(records, height, beside(place));
         place = place / 2;
     }
-    let count = count_chunk(records);
-    octets::put(&count, &mut out, 448);
+    out[14] = count_chunk(records);
     out
 }
 
 // The place of a sibling.
+#[tactic(auto, using(std::proofs::lemmas::Bool::Decides::nat_tests), unfolding(accumulator::specs::Tree::beside))]
 fn beside(place: usize) -> usize
     requires { place < 8192 }
     ensures { result ≡ beside place }
@@ -114,12 +107,10 @@ fn node(records: &[u8], height: usize, place: usize) -> [u8; 32]
 fn record_root(records: &[u8], position: usize) -> [u8; 32]
     ensures { result ≡ record_root records.now position }
 {
-    if records.len() / RECORD <= position {
-        return [0u8; 32];
+    match records.as_chunks::<RECORD>().0.get(position) {
+        Some(record) => sha256::hash(record),
+        None => [0u8; 32],
     }
-    let start = RECORD * position;
-    let end = start + RECORD;
-    sha256::hash(&records[start..end])
 }
 
 // The node of a height over zeros only.
@@ -139,9 +130,9 @@ fn count_chunk(records: &[u8]) -> [u8; 32]
     requires { are_records records.now ≡ true }
     ensures { result ≡ count_chunk records.now }
 {
-    let count = records.len() / RECORD;
+    let [low, high] = ((records.len() / RECORD) as u16).to_le_bytes();
     let mut chunk = [0u8; 32];
-    chunk[0] = (count % 256) as u8;
-    chunk[1] = (count / 256) as u8;
+    chunk[0] = low;
+    chunk[1] = high;
     chunk
 }

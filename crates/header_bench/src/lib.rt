@@ -1,8 +1,6 @@
 // A door for benches in other languages: calls on headers, each as it stands.
 #![tactic(auto)]
 
-use refusal::Wrote;
-
 // Puts the SHA-256 hash of a message at the start of a buffer of 32 bytes or more.
 #[unsafe(no_mangle)]
 pub extern "C" fn headers_hash(message: &[u8], out: &mut [u8]) {
@@ -13,20 +11,11 @@ pub extern "C" fn headers_hash(message: &[u8], out: &mut [u8]) {
 // Puts the root of an epoch's records at the start of a buffer, and answers how many bytes were put, 0 for a refusal.
 #[unsafe(no_mangle)]
 pub extern "C" fn headers_root(records: &[u8], out: &mut [u8]) -> usize {
-    let wrote = epoch_tree::root(records, out);
-    written(wrote)
+    epoch_tree::root(records, out).unwrap_or(0)
 }
 
 // The same for the proof of a position.
 #[unsafe(no_mangle)]
 pub extern "C" fn headers_proof(records: &[u8], position: u64, out: &mut [u8]) -> usize {
-    let wrote = epoch_tree::proof(records, position, out);
-    written(wrote)
-}
-
-fn written(wrote: Wrote) -> usize {
-    match wrote {
-        Wrote::Bytes(n) => n,
-        Wrote::Refused(_) => 0,
-    }
+    epoch_tree::proof(records, position, out).unwrap_or(0)
 }

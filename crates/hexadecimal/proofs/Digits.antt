@@ -1,21 +1,21 @@
 -- A character and the number that it stands for.
 use Prim.Native.Nat.{ℕ, ◌+◌, ◌-◌, ◌≤◌, ◌<◌}
-use mathlib.Core.Bool.{Bool, true, false, cond, ◌&&◌, ◌||◌, true≢false}
-use mathlib.Core.Path.{◌≡◌, refl, sym, ap, ◌∙◌}
+use mathlib.Core.Bool.{Bool, true, false, ◌&&◌}
+use mathlib.Core.Path.{◌≡◌, refl, ap, ◌∙◌}
 use mathlib.Core.Logic.{◌⊎◌, inl, inr, ⊎_elim}
 use native.Mathlib.Omega.{arith}
-use lib.Dec.{leb, ltb}
+use lib.Dec.{leb, ltb, lit<}
 use borrow.Author.Tests.{lt-ltb, le-ltb, le-leb, lt-leb, ltb-true, ltb-false, leb-true, leb-false}
-use Rattle.hexadecimal.specs.Digits.{digit_of, value_of, is_digit, number_of}
-use Rattle.hexadecimal.specs.declared.Digit.TheVariants.{Value, Other}
+use Rattle.hexadecimal.specs.Digits.{digit_of, value_of, number_of}
+use Rattle.std.specs.Prelude.{Option, Some, None, unwrap_or}
 
 -- `0` to `9` stand for 0 to 9
-pub value_of_decimal : (c : ℕ) → 48 ≤ c → c ≤ 57 → value_of c ≡ Value (c - 48)
+pub value_of_decimal : (c : ℕ) → 48 ≤ c → c ≤ 57 → value_of c ≡ Some (c - 48)
 unfolding value_of
 value_of_decimal c lo hi = simp (le-leb 48 c lo, le-leb c 57 hi)
 
 -- `a` to `f` stand for 10 to 15
-pub value_of_letter : (c : ℕ) → 97 ≤ c → c ≤ 102 → value_of c ≡ Value (c - 87)
+pub value_of_letter : (c : ℕ) → 97 ≤ c → c ≤ 102 → value_of c ≡ Some (c - 87)
 unfolding value_of
 value_of_letter c lo hi =
     let big : 57 < c = omega arith in
@@ -32,23 +32,23 @@ outside lo hi c (inr h) = go (leb lo c)
     go false = refl
 
 -- other characters stand for nothing
-pub value_of_other : (c : ℕ) → (c < 48) ⊎ (57 < c) → (c < 97) ⊎ (102 < c) → value_of c ≡ Other
+pub value_of_other : (c : ℕ) → (c < 48) ⊎ (57 < c) → (c < 97) ⊎ (102 < c) → value_of c ≡ None
 unfolding value_of
 value_of_other c d l = simp (outside 48 57 c d, outside 97 102 c l)
 
 -- the digit of a number below 16 stands for that number
-pub value_of_digit : (n : ℕ) → n < 16 → value_of (digit_of n) ≡ Value n
+pub value_of_digit : (n : ℕ) → n < 16 → value_of (digit_of n) ≡ Some n
 value_of_digit n h = go (ltb n 10) refl
   where
-    go : (b : Bool) → ltb n 10 ≡ b → value_of (digit_of n) ≡ Value n
+    go : (b : Bool) → ltb n 10 ≡ b → value_of (digit_of n) ≡ Some n
     go true e =
         let small : n < 10 = ltb-true n 10 e in
         let back : 48 + n - 48 ≡ n = omega arith in
-        rw e (value_of_decimal (48 + n) (omega arith) (omega arith) ∙ ap Value back)
+        rw e (value_of_decimal (48 + n) (omega arith) (omega arith) ∙ ap Some back)
     go false e =
         let big : 10 ≤ n = ltb-false n 10 e in
         let back : 87 + n - 87 ≡ n = omega arith in
-        rw e (value_of_letter (87 + n) (omega arith) (omega arith) ∙ ap Value back)
+        rw e (value_of_letter (87 + n) (omega arith) (omega arith) ∙ ap Some back)
 
 -- a number is in a range or outside it
 range : (lo hi c : ℕ) → ((lo ≤ c) × (c ≤ hi)) ⊎ ((c < lo) ⊎ (hi < c))
@@ -60,7 +60,7 @@ range lo hi c = go (leb lo c) refl (leb c hi) refl
     go false e b f = inr (inl (leb-false lo c e))
 
 -- a character that stands for a number is the digit of that number, which is below 16
-pub digit_of_value : (c n : ℕ) → value_of c ≡ Value n → (digit_of n ≡ c) × (n < 16)
+pub digit_of_value : (c n : ℕ) → value_of c ≡ Some n → (digit_of n ≡ c) × (n < 16)
 digit_of_value c n e = ⊎_elim decimal (λ d. ⊎_elim (letter d) (other d) (range 97 102 c)) (range 48 57 c)
   where
     decimal : (48 ≤ c) × (c ≤ 57) → (digit_of n ≡ c) × (n < 16)
@@ -83,25 +83,15 @@ digit_of_value c n e = ⊎_elim decimal (λ d. ⊎_elim (letter d) (other d) (ra
         let clash : ◌≡◌ {A = ℕ} 0 1 = cc in
         absurd (omega arith)
 
--- whether a character is a digit, by its two ranges
-pub digit_test : (c : ℕ) → ((leb 48 c && leb c 57) || (leb 97 c && leb c 102)) ≡ is_digit (value_of c)
-unfolding value_of
-digit_test c = go (leb 48 c && leb c 57) (leb 97 c && leb c 102)
+-- a digit's number is below 16
+pub number_small : (c : ℕ) → number_of (value_of c) < 16
+number_small c = go (value_of c) refl
   where
-    go : (d l : Bool) → (d || l) ≡ is_digit (cond d (Value (c - 48)) (cond l (Value (c - 87)) Other))
-    go true l = refl
-    go false true = refl
-    go false false = refl
+    go : (o : Option ℕ) → value_of c ≡ o → number_of o < 16
+    go (Some n) e = (digit_of_value c n e).1
+    go None e = lit< tt
 
--- a digit is in one of them
-digit_in : (c : ℕ) → is_digit (value_of c) ≡ true → ((48 ≤ c) × (c ≤ 57)) ⊎ ((97 ≤ c) × (c ≤ 102))
-digit_in c e = ⊎_elim inl (λ d. ⊎_elim inr (λ l. absurd (true≢false (sym e ∙ ap is_digit (value_of_other c d l)))) (range 97 102 c)) (range 48 57 c)
-
--- what a digit up to `9` stands for
-pub decimal_number : (c : ℕ) → is_digit (value_of c) ≡ true → c ≤ 57 → (48 ≤ c) × (number_of (value_of c) ≡ c - 48)
-decimal_number c e h = ⊎_elim (λ d. (d.0, ap number_of (value_of_decimal c d.0 d.1))) (λ l. absurd (omega (arith, l.0))) (digit_in c e)
-
--- and what one behind it does
-pub letter_number : (c : ℕ) → is_digit (value_of c) ≡ true → 57 < c → (97 ≤ c) × (c ≤ 102) × (number_of (value_of c) ≡ c - 87)
-letter_number c e h =
-    ⊎_elim (λ d. absurd (omega (arith, d.1))) (λ l. (l.0, l.1, ap number_of (value_of_letter c l.0 l.1))) (digit_in c e)
+-- a number or 0 where there is none, as std has it
+pub unwrapped : (o : Option ℕ) (n : ℕ) → n ≡ unwrap_or o 0 → n ≡ number_of o
+unwrapped (Some m) n e = e
+unwrapped None n e = e

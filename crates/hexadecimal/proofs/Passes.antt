@@ -1,35 +1,33 @@
 -- What one turn of each loop does, of the pass that tests the characters and of the two that write; and what each way out
 -- of `encode` and `decode` answers and leaves.
 use Prim.Native.Nat.{ℕ, zero, suc, ◌+◌, ◌-◌, ◌*◌, ◌/◌, ◌%◌, ◌≤◌, ◌<◌}
-use mathlib.Core.Bool.{Bool, true, false, cond, ◌&&◌, and-eq-true_iff}
-use mathlib.Core.List.{List, [], ◌∷◌, ◌++◌}
-use mathlib.Core.Option.{Option, some, none}
+use mathlib.Core.Bool.{Bool, true, false, cond, ◌&&◌, and_assoc, and-true}
+use mathlib.Core.List.{List, [], ◌∷◌, ◌++◌, map}
+use Rattle.std.specs.Prelude.{Option, Some, None, Ok, Err}
 use mathlib.Core.Path.{◌≡◌, refl, ap, ap₂, sym, ◌∙◌}
 use native.Mathlib.Nat.{zero-add}
 use native.Mathlib.Numerals.{add-one}
 use native.Mathlib.Omega.{arith}
-use lib.ListN.{length, get_or, take, drop, set}
-use lib.Seq.{drop-cons, take-length, paste, paste-suc}
+use lib.ListN.{length, get_or, take, drop, set, length-map, get_or-map}
+use Rattle.std.specs.List.{fold}
+use Rattle.std.specs.Simd.{first_chunks}
+use lib.Seq.{take-length, paste, paste-suc}
 use lib.Dec.{leb}
 use borrow.Author.Tests.{le-leb, lt-leb}
 use Rattle.hexadecimal.specs.Digits.{digit_of, value_of, text_of, bytes_of, is_digit, number_of, all_digits}
 use Rattle.octets.specs.Buffer.{has_room}
-use Rattle.octets.proofs.Buffers.{too_long, fits, room_ends, not_placed, placed_all}
+use Rattle.octets.proofs.Buffers.{too_long, fits, not_placed, placed_all}
 use Rattle.hexadecimal.specs.Buffer.{encoded_to, decoded_to, decoded_of, filled, filled_of}
-use Rattle.hexadecimal.specs.declared.Decoded.TheVariants.{Bytes, NotHex, NoRoom}
+use Rattle.hexadecimal.specs.declared.DecodeError.TheVariants.{NotHex, NoRoom}
 use Rattle.hexadecimal.proofs.Texts.{length_text, pairs_of}
 
--- the test on what is left at an index, by the character there
-pub digits_at : (text : List ℕ) (i : ℕ) → i < length text
-    → all_digits (drop i text) ≡ (is_digit (value_of (get_or text i 0)) && all_digits (drop (i + 1) text))
-digits_at text i h = rw add-one (ap all_digits (drop-cons text i 0 h))
-
--- each character of a text of digits is a digit
-pub digit_at : (text : List ℕ) (i : ℕ) → i < length text → all_digits text ≡ true → is_digit (value_of (get_or text i 0)) ≡ true
-digit_at [] i h e = absurd (omega arith)
-digit_at (c ∷ text) zero h e = ((and-eq-true_iff (is_digit (value_of c)) (all_digits text)).0 e).0
-digit_at (c ∷ text) (suc i) h e =
-    digit_at text i (omega arith) ((and-eq-true_iff (is_digit (value_of c)) (all_digits text)).0 e).1
+-- the pass over the characters is the test of the text
+pub digits_folded : (text : List ℕ) → fold (λ all c. all && is_digit (value_of c)) true text ≡ all_digits text
+digits_folded text = go text true
+  where
+    go : (text : List ℕ) (b : Bool) → fold (λ all c. all && is_digit (value_of c)) b text ≡ (b && all_digits text)
+    go [] b = sym (and-true b)
+    go (c ∷ text) b = go text (b && is_digit (value_of c)) ∙ (and_assoc b (is_digit (value_of c)) (all_digits text))
 
 -- one more byte is two more characters
 twice : (i : ℕ) → 2 * suc i ≡ suc (suc (2 * i))
@@ -67,12 +65,16 @@ put_text d at bs i small room out before h l of-h of-l =
     ∙ ap (paste d at s) next
 
 -- the byte of two characters
-pair_at : (text : List ℕ) (i : ℕ) → 2 * i + 1 < length text
-    → get_or (pairs_of text) i 0 ≡ number_of (value_of (get_or text (2 * i) 0)) * 16 + number_of (value_of (get_or text (2 * i + 1) 0))
-pair_at [] i h = absurd (omega arith)
-pair_at (c ∷ []) i h = absurd (omega arith)
-pair_at (c ∷ l ∷ text) zero h = refl
-pair_at (c ∷ l ∷ text) (suc i) h = rw (add-one, twice i) (rw add-one at (pair_at text i (omega arith)))
+abbrev pub byte_of : List ℕ → ℕ
+byte_of pair = number_of (value_of (get_or pair 0 0)) * 16 + number_of (value_of (get_or pair 1 0))
+
+-- the bytes of a text are those of its pairs
+pairs_mapped : (text : List ℕ) → pairs_of text ≡ map byte_of (first_chunks 2 (length text / 2) text)
+pairs_mapped [] = refl
+pairs_mapped (c ∷ []) = refl
+pairs_mapped (h ∷ l ∷ text) =
+    let more : suc (suc (length text)) / 2 ≡ suc (length text / 2) = omega arith in
+    rw (more, pairs_mapped text)
 
 -- two characters make a byte
 pub length_pairs : (text : List ℕ) → length (pairs_of text) ≡ length text / 2
@@ -81,15 +83,16 @@ length_pairs (c ∷ []) = refl
 length_pairs (c ∷ l ∷ text) = let rest = length_pairs text in omega arith
 
 -- a store takes the first i bytes to the first i + 1
-pub put_byte : (d text : List ℕ) (i : ℕ) → i < length text / 2 → i < length d
+pub put_byte : (d text : List ℕ) (pairs : List (List ℕ)) → pairs ≡ first_chunks 2 (length text / 2) text → (i : ℕ) → i < length pairs → i < length d
     → (out : List ℕ) → out ≡ take i (pairs_of text) ++ drop i d
-    → (h l : ℕ) → h ≡ number_of (value_of (get_or text (2 * i) 0)) → l ≡ number_of (value_of (get_or text (2 * i + 1) 0))
-    → (v : ℕ) → v ≡ h * 16 + l → set out i v ≡ take (i + 1) (pairs_of text) ++ drop (i + 1) d
-put_byte d text i small room out before h l of-h of-l v is =
+    → (v : ℕ) → v ≡ byte_of (get_or pairs i []) → set out i v ≡ take (i + 1) (pairs_of text) ++ drop (i + 1) d
+unfolding value_of
+put_byte d text pairs are i small room out before v is =
     let s : List ℕ = pairs_of text in
-    let n = length_pairs text in
-    ap₂ (λ (q : List ℕ) (x : ℕ). set q i x) before
-    (is ∙ ap₂ (λ (x y : ℕ). x * 16 + y) of-h of-l ∙ sym (pair_at text i (omega arith)))
+    let mapped : s ≡ map byte_of pairs = pairs_mapped text ∙ ap (map byte_of) (sym are) in
+    let n : length s ≡ length pairs = ap length mapped ∙ length-map pairs byte_of in
+    let v_is : v ≡ get_or s i 0 = is ∙ sym (get_or-map byte_of pairs i []) ∙ ap (λ (l : List ℕ). get_or l i 0) (sym mapped) in
+    ap₂ (λ (q : List ℕ) (x : ℕ). set q i x) before v_is
     ∙ rw add-one (simp zero-add at (paste-suc d 0 s i 0 (omega arith) (omega arith)))
 
 -- where the text has no room, the answer is false and the buffer is as it was
@@ -112,31 +115,27 @@ pub no_place : (d : List ℕ) (at : ℕ) (bs : List ℕ) → at ≤ length d →
 no_place d at bs h l = too_long d at (text_of bs) h (omega (arith, length_text bs))
 
 -- what a text that stands for nothing answers, and leaves
-pub not_hex : (text d : List ℕ) → bytes_of text ≡ none → (NotHex ≡ decoded_of text d) × (d ≡ filled_of text d)
+pub not_hex : (text d : List ℕ) → bytes_of text ≡ None → (Err NotHex ≡ decoded_of text d) × (d ≡ filled_of text d)
 not_hex text d e =
     (sym (ap (λ (o : Option (List ℕ)). decoded_to o (length d)) e), sym (ap (λ (o : Option (List ℕ)). filled o d) e))
 
 -- what bytes that do not fit answer, and leave
-pub no_room : (text d bs : List ℕ) → bytes_of text ≡ some bs → length d < length bs
-    → (NoRoom ≡ decoded_of text d) × (d ≡ filled_of text d)
+pub no_room : (text d bs : List ℕ) → bytes_of text ≡ Some bs → length d < length bs
+    → (Err NoRoom ≡ decoded_of text d) × (d ≡ filled_of text d)
 no_room text d bs e h =
     let t : leb (length bs) (length d) ≡ false = lt-leb (length bs) (length d) h in (
-      sym (ap (λ (o : Option (List ℕ)). decoded_to o (length d)) e ∙ ap (λ (b : Bool). cond b (Bytes (length bs)) NoRoom) t),
+      sym (ap (λ (o : Option (List ℕ)). decoded_to o (length d)) e ∙ ap (λ (b : Bool). cond b (Ok (length bs)) (Err NoRoom)) t),
       sym (ap (λ (o : Option (List ℕ)). filled o d) e ∙ ap (λ (b : Bool). cond b (bs ++ drop (length bs) d) d) t),
     )
 
 -- what bytes that fit answer, and leave
-pub put_all : (text d bs : List ℕ) (n i : ℕ) → n ≡ length bs → i ≡ length bs → bytes_of text ≡ some bs → length bs ≤ length d
-    → (Bytes n ≡ decoded_of text d) × (take i bs ++ drop i d ≡ filled_of text d)
+pub put_all : (text d bs : List ℕ) (n i : ℕ) → n ≡ length bs → i ≡ length bs → bytes_of text ≡ Some bs → length bs ≤ length d
+    → (Ok n ≡ decoded_of text d) × (take i bs ++ drop i d ≡ filled_of text d)
 put_all text d bs n i all last e h =
     let t : leb (length bs) (length d) ≡ true = le-leb (length bs) (length d) h in (
-      ap Bytes all
-          ∙ sym (ap (λ (o : Option (List ℕ)). decoded_to o (length d)) e ∙ ap (λ (b : Bool). cond b (Bytes (length bs)) NoRoom) t),
+      ap Ok all
+          ∙ sym (ap (λ (o : Option (List ℕ)). decoded_to o (length d)) e ∙ ap (λ (b : Bool). cond b (Ok (length bs)) (Err NoRoom)) t),
       ap (λ (k : ℕ). take k bs ++ drop k d) last
           ∙ ap (λ (l : List ℕ). l ++ drop (length bs) d) (take-length bs)
           ∙ sym (ap (λ (o : Option (List ℕ)). filled o d) e ∙ ap (λ (b : Bool). cond b (bs ++ drop (length bs) d) d) t),
     )
-
--- a text that has room ends within the buffer
-pub text_ends : (d : List ℕ) (at : ℕ) (bs : List ℕ) → has_room d at (text_of bs) ≡ true → at + 2 * length bs ≤ length d
-text_ends d at bs e = omega (arith, room_ends d at (text_of bs) e, length_text bs)

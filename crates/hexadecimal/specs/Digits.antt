@@ -1,19 +1,16 @@
 -- Bytes as lower-case hexadecimal text, two digits a byte, and the text read back.
-use Rattle.std.specs.Prelude.{ℕ, ◌+◌, ◌-◌, ◌*◌, ◌/◌, ◌%◌, Bool, true, false, cond, ◌&&◌, List, [], ◌∷◌, leb, ltb}
-use Rattle.std.proofs.Math.Option.{Option, some, none}
-use Rattle.hexadecimal.specs.declared.Digit.{Digit}
-use Rattle.hexadecimal.specs.declared.Digit.TheVariants.{Value, Other}
+use Rattle.std.specs.Prelude.{ℕ, ◌+◌, ◌-◌, ◌*◌, ◌/◌, ◌%◌, Bool, true, false, cond, ◌&&◌, List, [], ◌∷◌, leb, ltb, Option, Some, None}
 
 -- the digit for a number below 16: `0` to `9`, then `a` to `f`
 abbrev pub digit_of : ℕ → ℕ
 digit_of n = cond (ltb n 10) (48 + n) (87 + n)
 
 -- the number that a character stands for, if it is `0` to `9` or `a` to `f`
-unfoldable pub value_of : ℕ → Digit
+unfoldable pub value_of : ℕ → Option ℕ
 value_of c =
-    cond (leb 48 c && leb c 57) (Value (c - 48))
-    (cond (leb 97 c && leb c 102) (Value (c - 87))
-    Other)
+    cond (leb 48 c && leb c 57) (Some (c - 48))
+    (cond (leb 97 c && leb c 102) (Some (c - 87))
+    None)
 
 -- bytes as text
 abbrev pub text_of : List ℕ → List ℕ
@@ -21,27 +18,27 @@ text_of [] = []
 text_of (b ∷ bs) = digit_of (b / 16) ∷ digit_of (b % 16) ∷ text_of bs
 
 -- a byte of two digits in front of the bytes that follow it, where all of these are there
-abbrev pub joined : Digit → Digit → Option (List ℕ) → Option (List ℕ)
-joined (Value h) (Value l) (some bs) = some ((h * 16 + l) ∷ bs)
-joined (Value h) (Value l) none = none
-joined (Value h) Other bs = none
-joined Other l bs = none
+abbrev pub joined : Option ℕ → Option ℕ → Option (List ℕ) → Option (List ℕ)
+joined (Some h) (Some l) (Some bs) = Some ((h * 16 + l) ∷ bs)
+joined (Some h) (Some l) None = None
+joined (Some h) None bs = None
+joined None l bs = None
 
 -- the bytes that a text stands for: none for an odd number of digits, or for another character
 abbrev pub bytes_of : List ℕ → Option (List ℕ)
-bytes_of [] = some []
-bytes_of (h ∷ []) = none
+bytes_of [] = Some []
+bytes_of (h ∷ []) = None
 bytes_of (h ∷ l ∷ text) = joined (value_of h) (value_of l) (bytes_of text)
 
 -- the character is a digit
-abbrev pub is_digit : Digit → Bool
-is_digit (Value n) = true
-is_digit Other = false
+abbrev pub is_digit : Option ℕ → Bool
+is_digit (Some n) = true
+is_digit None = false
 
 -- the number of a digit, and 0 for another character
-abbrev pub number_of : Digit → ℕ
-number_of (Value n) = n
-number_of Other = 0
+abbrev pub number_of : Option ℕ → ℕ
+number_of (Some n) = n
+number_of None = 0
 
 -- every character of the text is a digit
 abbrev pub all_digits : List ℕ → Bool

@@ -1,9 +1,8 @@
 // A door for benches in other languages: one call on an index of some size, many times over.
 #![tactic(auto)]
 
-use key_index::KeyIndex;
-use key_store::Stored;
-use refusal::{Checked, Wrote};
+use key_index::{KeyIndex, LIMIT, WIDTH};
+use refusal::Refusal;
 
 // Makes a call on the index of bodies 0 up to `size`, so many times over, each time on that index. The calls: 0 stores receipts, 1 stores
 // a body, 2 removes a body, each with 64 block numbers from `at` on in turn; 3 reloads the index's own text; all others save it.
@@ -12,10 +11,10 @@ use refusal::{Checked, Wrote};
 pub extern "C" fn index_many(call: u32, size: u32, at: u32, rounds: u32) -> u64 {
     let index = bodies(size);
     let mut text = [0u8; 65536];
-    let len = written(snapshot::save(index, &mut text));
+    let len = snapshot::save(&index, &mut text).unwrap_or(0);
     let mut sum = 0u64;
     for i in 0..rounds {
-        sum = added(sum, called(call, index, number(at, i), &mut text, len));
+        sum = added(sum, called(call, &index, number(at, i), &mut text, len));
     }
     sum
 }
@@ -30,10 +29,10 @@ fn number(at: u32, i: u32) -> u32 {
 
 // The index of node id zero that holds bodies 0 up to `size`; its cap is beyond body 16,384.
 fn bodies(size: u32) -> KeyIndex {
-    let mut keys = [0u8; key_index::LIMIT * key_index::WIDTH];
-    for i in 0..size {
-        let body = key(0, i);
-        octets::put(&body, &mut keys, i as usize * key_index::WIDTH);
+    let mut keys = [0u8; LIMIT * WIDTH];
+    let (places, _) = keys.as_chunks_mut::<WIDTH>();
+    for (place, i) in places.iter_mut().zip(0..size) {
+        *place = key(0, i);
     }
     KeyIndex {
         node: [0u8; 32],
@@ -49,7 +48,8 @@ fn key(selector: u8, number: u32) -> [u8; 9] {
     [selector, low, high, 0, 0, 0, 0, 0, 0]
 }
 
-fn called(call: u32, index: KeyIndex, number: u32, text: &mut [u8], len: usize) -> u64 {
+// Kept: the C interface hands over the call as a number.
+fn called(call: u32, index: &KeyIndex, number: u32, text: &mut [u8], len: usize) -> u64 {
     match call {
         0 => stored(index, key(1, number), number),
         1 => stored(index, key(0, number), number),
@@ -59,71 +59,54 @@ fn called(call: u32, index: KeyIndex, number: u32, text: &mut [u8], len: usize) 
     }
 }
 
-fn stored(index: KeyIndex, key: [u8; 9], number: u32) -> u64 {
-    let done = key_store::store(index, &key, b"\xc0", number as u64);
-    let how = done.stored;
-    let evicted = done.evicted;
-    added(
-        stored_word(how, evicted),
-        left(&done.index.keys, done.index.count, number),
-    )
+fn stored(index: &KeyIndex, key: [u8; 9], number: u32) -> u64 {
+    let mut after = *index;
+    let word = match key_store::store(&mut after, &key, b"\xc0", u64::from(number)) {
+        Ok(done) => done.evicted.map_or(256, |key| 512 + u64::from(key[1])),
+        Err(why) => u64::from(u8::from(why)),
+    };
+    added(word, left(&after.keys, after.count, number))
 }
 
-fn stored_word(how: Stored, evicted: [u8; 9]) -> u64 {
-    match how {
-        Stored::Kept(_) => 256,
-        Stored::Evicting(_) => 512 + octets::wide(evicted[1]) as u64,
-        Stored::Refused(why) => refusal::number(why) as u64,
+fn removed(index: &KeyIndex, number: u32) -> u64 {
+    let mut after = *index;
+    let word = word(key_remove::remove(&mut after, &key(0, number)));
+    added(word, left(&after.keys, after.count, number))
+}
+
+fn word(done: Result<(), Refusal>) -> u64 {
+    match done {
+        Ok(()) => 256,
+        Err(why) => u64::from(u8::from(why)),
     }
 }
 
-fn removed(index: KeyIndex, number: u32) -> u64 {
-    let body = key(0, number);
-    let done = key_remove::remove(index, &body);
-    let checked = done.checked;
-    added(
-        checked_word(checked),
-        left(&done.index.keys, done.index.count, number),
-    )
-}
-
-fn checked_word(checked: Checked) -> u64 {
-    match checked {
-        Checked::Accepted => 256,
-        Checked::Refused(why) => refusal::number(why) as u64,
+fn reloaded(index: &KeyIndex, text: &[u8], len: usize, number: u32) -> u64 {
+    if text.len() < len {
+        return 0;
     }
+    let mut after = *index;
+    let word = word(snapshot::reload(&mut after, &text[..len]));
+    added(word, left(&after.keys, after.count, number))
 }
 
-fn reloaded(index: KeyIndex, text: &[u8], len: usize, number: u32) -> u64 {
-    if len <= text.len() {
-        let done = snapshot::reload(index, &text[..len]);
-        let checked = done.checked;
-        return added(
-            checked_word(checked),
-            left(&done.index.keys, done.index.count, number),
-        );
-    }
-    0
-}
-
-fn saved(index: KeyIndex, text: &mut [u8], number: u32) -> u64 {
-    let len = written(snapshot::save(index, text));
+fn saved(index: &KeyIndex, text: &mut [u8], number: u32) -> u64 {
+    let len = snapshot::save(index, text).unwrap_or(0);
     left(text, len, number)
-}
-
-// How many bytes a call wrote.
-fn written(wrote: Wrote) -> usize {
-    match wrote {
-        Wrote::Bytes(n) => n,
-        Wrote::Refused(_) => 0,
-    }
 }
 
 // Some bytes of what a call leaves, in three of its places, and its count.
 fn left(bytes: &[u8], count: usize, number: u32) -> u64 {
-    let here = key_index::key_at(bytes, number as usize);
-    let next = key_index::key_at(bytes, number as usize % 65536 + 1);
-    let middle = key_index::key_at(bytes, count / 2);
+    let at = number as usize;
+    let here = nine(bytes, at);
+    let next = nine(bytes, at % 65536 + 1);
+    let middle = nine(bytes, count / 2);
     let mixed = here[1] ^ here[2] ^ next[0] ^ next[1] ^ middle[1] ^ middle[5];
-    added((count % 65536) as u64, octets::wide(mixed) as u64)
+    added((count % 65536) as u64, u64::from(mixed))
+}
+
+// The nine bytes of a place, and zeros past the last whole one.
+fn nine(bytes: &[u8], place: usize) -> [u8; 9] {
+    let (places, _) = bytes.as_chunks::<WIDTH>();
+    places.get(place).copied().unwrap_or([0u8; 9])
 }

@@ -1,14 +1,17 @@
 -- A flat array as a list of keys, nine bytes each. Each law goes by recursion on the number of keys; `next` takes the places of the
 -- bytes along. Assumes nothing.
-use Prim.Native.Nat.{ℕ, zero, suc, ◌+◌, ◌-◌, ◌*◌, ◌≤◌, ◌<◌}
+use Prim.Native.Nat.{ℕ, zero, suc, ◌+◌, ◌-◌, ◌*◌, ◌≤◌, ◌<◌, min}
+use native.Mathlib.Decide.{dec_lt}
 use native.Mathlib.Nat.{zero-add, suc-add, le_refl}
 use native.Mathlib.Numerals.{add-one}
 use native.Mathlib.Omega.{arith}
 use mathlib.Core.Path.{◌≡◌, refl, sym, ap, ap₂, ◌∙◌}
 use mathlib.Core.List.{List, [], ◌∷◌, ◌++◌}
 use borrow.Author.Tests.{le-leb, lt-leb}
-use lib.ListN.{length, get_or, take, drop, replicate, length-drop}
-use lib.Seq.{take-nil, take_at, drop_at, take-take, drop-drop, length-take-le}
+use lib.ListN.{length, get_or, take, drop, replicate, length-drop, get_or-eq_default}
+use lib.Seq.{take_all, take-nil, take_at, drop_at, take-take, drop-drop, length-take-le}
+use Rattle.std.proofs.lemmas.List.{get_or_default}
+use Rattle.std.specs.Simd.{first_chunks}
 use Rattle.octets.specs.Bytes.{Bytes}
 use Rattle.octets.proofs.Numbers.{bytes_take, bytes_drop}
 use Rattle.key_index.specs.Keys.{Each, NineBytes}
@@ -110,10 +113,6 @@ pub key_at_out : (b : List ℕ) (i : ℕ) → length b < 9 * suc i → key_at b 
 unfolding key_at
 key_at_out b i h = rw (lt-leb (9 * suc i) (length b) h)
 
--- the key that the code reads is the one of the list
-pub key_at_chunks : (n i : ℕ) (b : List ℕ) → i < n → 9 * n ≤ length b → key_at b i ≡ get_or (chunks n b) i []
-key_at_chunks n i b h l = key_at_in b i (omega arith) ∙ sym (get_or_chunks n i b h)
-
 -- each key of an array that is long enough has nine bytes
 pub chunks_nine : (n : ℕ) (b : List ℕ) → 9 * n ≤ length b → Bytes b → Each NineBytes (chunks n b)
 unfolding chunks
@@ -122,3 +121,40 @@ chunks_nine (suc n) b l h = (
   record { size = length-take-le 9 b (omega arith); bytes = bytes_take 9 b h },
   chunks_nine n (drop 9 b) (omega (arith, length-drop 9 b)) (bytes_drop 9 b h),
 )
+
+-- std's pieces of nine bytes are the keys
+pub chunks_pieces : (n : ℕ) (b : List ℕ) → first_chunks 9 n b ≡ chunks n b
+unfolding chunks
+chunks_pieces zero b = refl
+chunks_pieces (suc n) b = ap (λ (l : List (List ℕ)). take 9 b ∷ l) (chunks_pieces n (drop 9 b))
+
+-- so many of all the places as there are keys are the keys, as far as there are places
+pub places_held : (limit count n : ℕ) (b : List ℕ) → n ≡ min count limit → take n (chunks limit b) ≡ take limit (chunks count b)
+places_held limit count n b is = go (dec_lt limit count)
+  where
+    go : Dec (limit < count) → take n (chunks limit b) ≡ take limit (chunks count b)
+    go (yes h) =
+        let e : limit + (count - limit) ≡ count = omega arith in
+        ap (λ (k : ℕ). take k (chunks limit b)) (omega arith)
+        ∙ take_all limit (chunks limit b) (omega (arith, chunks_length limit b))
+        ∙ sym (take_chunks limit (count - limit) b)
+        ∙ ap (λ (k : ℕ). take limit (chunks k b)) e
+    go (no h) =
+        let e : limit ≡ count + (limit - count) = omega arith in
+        ap₂ (λ (k j : ℕ). take k (chunks j b)) (omega arith) e
+        ∙ take_chunks count (limit - count) b
+        ∙ sym (take_all limit (chunks count b) (omega (arith, chunks_length count b)))
+
+-- the key at a place, or zeros, is the key that the code reads
+pub key_at_place : (limit i : ℕ) (b : List ℕ) → 9 * limit ≤ length b → length b < 9 + 9 * limit → get_or (chunks limit b) i (replicate 9 0) ≡ key_at b i
+key_at_place limit i b least most = go (dec_lt i limit)
+  where
+    zeros : List ℕ
+    zeros = replicate 9 0
+
+    go : Dec (i < limit) → get_or (chunks limit b) i zeros ≡ key_at b i
+    go (yes h) =
+        get_or_default (chunks limit b) i zeros [] (omega (arith, chunks_length limit b))
+        ∙ get_or_chunks limit i b h
+        ∙ sym (key_at_in b i (omega arith))
+    go (no h) = get_or-eq_default (chunks limit b) zeros {n = i} (omega (arith, chunks_length limit b)) ∙ sym (key_at_out b i (omega arith))

@@ -6,7 +6,7 @@ use mathlib.Core.Path.{◌≡◌, refl, sym, subst}
 use mathlib.Core.Logic.{◌⊎◌, inl, inr}
 use mathlib.Core.List.Memᴰ
 use mathlib.Core.List.{List, [], ◌∷◌, Memᴰ}
-use lib.ListN.{length, get_or}
+use lib.ListN.{length, get_or, take}
 use Rattle.key_index.specs.Keys.{Each}
 
 -- of the key at a place
@@ -28,3 +28,9 @@ each_member P (j ∷ ks) {k} h m = go (Memᴰ.cases_cons m) (λ n. each_member P
 pub each_all : (P : List ℕ → Type 0) (ks : List (List ℕ)) → ((k : List ℕ) → Memᴰ k ks → P k) → Each P ks
 each_all P [] h = tt
 each_all P (k ∷ ks) h = (h k (Memᴰ.head refl), each_all P ks (λ j m. h j (Memᴰ.tail m)))
+
+-- of each of the first n
+pub each_take : (P : List ℕ → Type 0) (n : ℕ) (ks : List (List ℕ)) → Each P ks → Each P (take n ks)
+each_take P zero ks h = tt
+each_take P (suc n) [] h = tt
+each_take P (suc n) (k ∷ ks) h = (h.0, each_take P n ks h.1)

@@ -1,5 +1,6 @@
 -- The rules of an index, as facts: intro and elim for the Bool `good`, by recursion on the keys. Assumes nothing.
-use Prim.Native.Nat.{ℕ, suc}
+use Prim.Native.Nat.{ℕ, suc, ◌≤◌}
+use native.Mathlib.Omega.{arith}
 use mathlib.Core.Path.{◌≡◌, refl}
 use mathlib.Core.Bool.{true, ◌&&◌}
 use mathlib.Core.List.{List, [], ◌∷◌}
@@ -9,9 +10,10 @@ use borrow.Author.Tests.{leb-true, le-leb}
 use Rattle.octets.specs.Bytes.{be}
 use Rattle.octets.proofs.Tests.{both, join}
 use Rattle.content_key.specs.Key.{selector_of}
-use Rattle.key_index.specs.View.{View}
+use Rattle.key_index.specs.View.{View, view_of}
 use Rattle.key_index.specs.Good.{away_from, good_from, good}
 use Rattle.key_index.specs.Rules.{GoodKeys, Good}
+use Rattle.key_index.proofs.Chunks.{chunks_length}
 
 -- keys that pass the test keep the rules
 pub from_facts : (node : List ℕ) (cap from : ℕ) (keys : List (List ℕ)) → good_from node cap from keys ≡ true → GoodKeys node cap from keys
@@ -55,3 +57,7 @@ pub facts_good : (limit : ℕ) (v : View) → Good limit v → good limit v ≡ 
 unfolding good
 facts_good limit v g =
     join _ _ (le-leb (length v.keys) limit g.few) (facts_from v.node (be v.cap) 0 v.keys g.each)
+
+-- a good index has at most so many keys as the limit
+pub good_count : (limit : ℕ) (node cap bytes : List ℕ) (count : ℕ) → good limit (view_of node cap bytes count) ≡ true → count ≤ limit
+good_count limit node cap bytes count g = omega (arith, (good_facts limit (view_of node cap bytes count) g).few, chunks_length count bytes)

@@ -3,7 +3,7 @@
 use Prim.Native.Nat.{ℕ, ◌+◌, ◌-◌, ◌/◌, ◌%◌, ◌≤◌, ◌<◌}
 use mathlib.Core.Bool.{Bool, true, false, cond}
 use mathlib.Core.List.{List, [], ◌∷◌, ◌++◌, append-nil}
-use mathlib.Core.Option.{Option, some, none}
+use Rattle.std.specs.Prelude.{Option, Some, None}
 use mathlib.Core.Path.{◌≡◌, refl, ap, ap₂, sym, ◌∙◌}
 use native.Mathlib.Omega.{arith}
 use lib.Dec.{ltb, leb, lit≤}
@@ -26,56 +26,47 @@ use Rattle.key_lines.specs.declared.Printed.{Printed}
 use Rattle.key_lines.proofs.Lengths.{parity, short}
 use Rattle.key_lines.proofs.States.{first_of}
 
--- a text that stands for no bytes, and one that stands for some
-line_none : (text : List ℕ) → bytes_of text ≡ none → line_of text ≡ printed_of (refused 15)
-unfolding line_of
-line_none text e = ap (λ (o : Option (List ℕ)). printed_of (decoded_id o)) e
-
-line_some : (text bytes : List ℕ) → bytes_of text ≡ some bytes → line_of text ≡ printed_of (content_id_of bytes)
-unfolding line_of
-line_some text bytes e = ap (λ (o : Option (List ℕ)). printed_of (decoded_id o)) e
-
 -- nine bytes fill the nine places
-filled_nine : (bytes : List ℕ) → length bytes ≡ 9 → filled (some bytes) (replicate 9 0) ≡ bytes
+filled_nine : (bytes : List ℕ) → length bytes ≡ 9 → filled (Some bytes) (replicate 9 0) ≡ bytes
 filled_nine bytes h = ap (λ (k : ℕ). cond (leb k 9) (bytes ++ drop k (replicate 9 0)) (replicate 9 0)) h ∙ append-nil bytes
-
--- an odd number of characters
-pub odd_text : (text : List ℕ) → capped (length text) % 2 ≡ 1 → line_of text ≡ printed_of (refused 15)
-odd_text text h = line_none text (no_bytes_odd text (sym (parity (capped (length text)) (length text) refl) ∙ h))
 
 module _ (line : Line) (text : List ℕ) (b : Begun line text) where
   -- another character
-  pub bad_line_lem : line.bad ≡ true → line_of text ≡ printed_of (refused 15)
-  bad_line_lem h = line_none text (no_bytes_other text (not-true (all_digits text) (sym b.digits ∙ h)))
+  pub other_char : line.bad ≡ true → refused 15 ≡ decoded_id (bytes_of text)
+  other_char h = sym (ap decoded_id (no_bytes_other text (not-true (all_digits text) (sym b.digits ∙ h))))
+
+  -- an odd number of characters
+  pub odd_text : line.len % 2 ≡ 1 → refused 15 ≡ decoded_id (bytes_of text)
+  odd_text h = sym (ap decoded_id (no_bytes_odd text (sym (parity line.len (length text) b.count) ∙ h)))
 
   -- past these tests the text stands for bytes
-  pairs : line.bad ≡ false → line.len % 2 ≡ 0 → bytes_of text ≡ some (pairs_of text)
+  pairs : line.bad ≡ false → line.len % 2 ≡ 0 → bytes_of text ≡ Some (pairs_of text)
   pairs h e =
       bytes_of_pairs text (not-false (all_digits text) (sym b.digits ∙ h)) (sym (parity line.len (length text) b.count) ∙ e)
 
   -- which are not nine
-  pub wrong_length : line.bad ≡ false → line.len % 2 ≡ 0 → (line.len ≡ 18 → ⊥) → line_of text ≡ printed_of (refused 7)
+  pub wrong_length : line.bad ≡ false → line.len % 2 ≡ 0 → (line.len ≡ 18 → ⊥) → refused 7 ≡ decoded_id (bytes_of text)
   wrong_length h e n =
       let bytes = pairs h e in
       let two = length_of_bytes text (pairs_of text) bytes in
       let not-nine : length (pairs_of text) ≡ 9 → ⊥ = λ nine.
       let all : length text ≡ 18 = omega arith in
       n (b.count ∙ ap capped all) in
-      line_some text (pairs_of text) bytes ∙ ap (λ (o : Outcome (List ℕ)). printed_of (map_outcome key_id o)) (key_length (pairs_of text) not-nine)
+      sym (ap decoded_id bytes ∙ ap (map_outcome key_id) (key_length (pairs_of text) not-nine))
 
   -- or are the nine that the first 18 characters stand for
-  pub nine_line : line.bad ≡ false → line.len ≡ 18 → line_of text ≡ printed_of (content_id_of (filled_of line.first (replicate 9 0)))
-  nine_line h e =
+  pub nine_bytes : line.bad ≡ false → line.len ≡ 18 → content_id_of (filled_of line.first (replicate 9 0)) ≡ decoded_id (bytes_of text)
+  nine_bytes h e =
       let n : length text ≡ 18 = short line.len (length text) b.count (omega arith) ∙ e in
       let bytes = pairs h (ap (λ (k : ℕ). k % 2) e) in
       let two = length_of_bytes text (pairs_of text) bytes in
       let nine : length (pairs_of text) ≡ 9 = omega arith in
       let all : line.first ≡ text = sym (take_all (length text) line.first (omega (arith, b.size)))
       ∙ first_of text line.first b.kept (omega arith) in
-      line_some text (pairs_of text) bytes
-      ∙ sym (ap (λ (t : List ℕ). printed_of (content_id_of (filled_of t (replicate 9 0)))) all
-      ∙ ap (λ (o : Option (List ℕ)). printed_of (content_id_of (filled o (replicate 9 0)))) bytes
-      ∙ ap (λ (k : List ℕ). printed_of (content_id_of k)) (filled_nine (pairs_of text) nine))
+      ap (λ (t : List ℕ). content_id_of (filled_of t (replicate 9 0))) all
+      ∙ ap (λ (o : Option (List ℕ)). content_id_of (filled o (replicate 9 0))) bytes
+      ∙ ap content_id_of (filled_nine (pairs_of text) nine)
+      ∙ sym (ap decoded_id bytes)
 
 -- a line in the array that line feeds fill up
 pub padded_is : (line text : List ℕ) (n : ℕ) → length line ≡ n → text ≡ line ++ replicate (65 - n) 10
@@ -130,8 +121,8 @@ outcome_length (refusal says) = let few = go (ltb (number_in says) 10) in omega 
     go false = lit≤ tt
 
 decoded_length : (o : Option (List ℕ)) → length (printed_of (decoded_id o)) ≤ 65
-decoded_length none = lit≤ tt
-decoded_length (some bytes) = outcome_length (key_of bytes)
+decoded_length None = lit≤ tt
+decoded_length (Some bytes) = outcome_length (key_of bytes)
 
 pub line_length_lem : (text : List ℕ) → length (line_of text) ≤ 65
 unfolding line_of

@@ -4,13 +4,14 @@
 use Prim.Native.Nat.{ℕ, suc, ◌+◌, ◌≤◌, ◌<◌}
 use mathlib.Core.Bool.{Bool, true, false, cond}
 use mathlib.Core.List.{List, [], ◌∷◌, ◌++◌, append_assoc, append-nil}
-use mathlib.Core.Path.{◌≡◌, refl, ap, sym, ◌∙◌}
-use native.Mathlib.Numerals.{add-one}
+use mathlib.Core.Path.{◌≡◌, refl, ap, sym, subst, ◌∙◌}
 use native.Mathlib.Omega.{arith}
-use lib.Dec.{eqb}
-use lib.ListN.{length, get_or, take, drop, drop_of_length-le}
-use lib.Seq.{drop-cons}
-use borrow.Author.Tests.{ne_eqb, eqb-true}
+use lib.Dec.{eqb, ltb}
+use lib.ListN.{length, get_or, take}
+use borrow.Author.Tests.{ltb-false, eqb-true}
+use Rattle.std.specs.Prelude.{Option, MatchOption, position, Some, None, ◌==◌}
+use Rattle.std.specs.List.{position_or_len}
+use Rattle.std.proofs.lemmas.List.Recursion.{is_position_or_len}
 use Rattle.key_lines.specs.Lines.{line_of, line_length, printed_from, begun_by}
 
 printed_step : (c : ℕ) (begun xs ys : List ℕ) (t : Bool)
@@ -110,15 +111,18 @@ unfolding line_length
 feed_there [] h = absurd (omega arith)
 feed_there (c ∷ s) h = there_step c s (eqb c 10) refl (feed_there s) h
 
--- the scan for it: at a line feed, past another character, and at the end
-pub scan_here : (s : List ℕ) (i : ℕ) → i < length s → get_or s i 0 ≡ 10 → line_length (drop i s) ≡ 0
+-- its place is where std finds it
+first_feed : (s : List ℕ) → line_length s ≡ position_or_len (λ c. eqb c 10) s
 unfolding line_length
-scan_here s i h e = rw (drop-cons s i 0, e)
+first_feed = is_position_or_len line_length (λ c. eqb c 10) refl
+    (λ c s. let e : suc (line_length s) ≡ 1 + line_length s = omega arith in ap (λ (k : ℕ). cond (eqb c 10) 0 k) e)
 
-pub scan_on : (s : List ℕ) (i : ℕ) → i < length s → (get_or s i 0 ≡ 10 → ⊥) → line_length (drop i s) ≡ suc (line_length (drop (i + 1) s))
-unfolding line_length
-scan_on s i h e = rw (add-one, drop-cons s i 0, ne_eqb (get_or s i 0) 10 e)
+pub found : (o : Option ℕ) (s : List ℕ) → o ≡ position (λ c. c == 10) s → MatchOption o (line_length s ≡ length s) (λ n. line_length s ≡ n)
+found o s is = subst (λ (p : Option ℕ). MatchOption p (line_length s ≡ length s) (λ n. line_length s ≡ n)) (sym is) (go (ltb n (length s)) refl)
+  where
+    n : ℕ
+    n = position_or_len (λ c. eqb c 10) s
 
-pub scan_end : (s : List ℕ) (i : ℕ) → length s ≤ i → line_length (drop i s) ≡ 0
-unfolding line_length
-scan_end s i h = ap line_length (drop_of_length-le s h)
+    go : (t : Bool) → ltb n (length s) ≡ t → MatchOption (cond t (Some n) None) (line_length s ≡ length s) (λ k. line_length s ≡ k)
+    go true e = first_feed s
+    go false e = let end = ltb-false n (length s) e in omega (arith, first_feed s, line_inside s)

@@ -27,7 +27,7 @@ module _ (first : List ℕ) (len : ℕ) (bad : Bool) (text : List ℕ) (b : Begu
   more : length (text ++ (c ∷ [])) ≡ length text + 1
   more = length-append text (c ∷ [])
 
-  -- the length goes on by `longer`
+  -- the length goes on by `capped_more`
   count_more : (l : ℕ) → ((n : ℕ) → len ≡ capped n → l ≡ capped (n + 1)) → l ≡ capped (length (text ++ (c ∷ [])))
   count_more l h = h (length text) b.count ∙ sym (ap capped more)
 

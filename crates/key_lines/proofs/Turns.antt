@@ -8,7 +8,7 @@ use native.Mathlib.Decide.{dec_lt}
 use native.Mathlib.Numerals.{add-one}
 use native.Mathlib.Omega.{arith}
 use lib.ListN.{length, get_or, take, drop, length-append, length-drop}
-use lib.Seq.{take-suc, take-add, get_or-drop, take_at, drop_at, drop-drop, length-take-le}
+use lib.Seq.{take-suc, take-add, get_or-drop, take_at, drop_at, drop-drop}
 use Rattle.octets.specs.Buffer.{placed}
 use Rattle.octets.proofs.Buffers.{placed_room}
 use Rattle.key_lines.specs.Lines.{line_of, line_length, printed_from, begun_by}
@@ -118,12 +118,11 @@ module _ (line₀ : Line) (input before : List ℕ) where
             (printed_feed (begun_by text (take end input)) [] ∙ append-nil (line_of (begun_by text (take end input))))
 
         -- the line is printed, and a new one begins
-        pub ended : (room : written + 65 ≤ length before) (p : List ℕ) (n : ℕ) → length p ≡ 65 → n ≤ 65
-            → ((text : List ℕ) → Begun next text → take n p ≡ line_of text)
-            → (out' : List ℕ) → out' ≡ placed out written (take n p) → length out' ≡ length out → (to : ℕ) → to ≡ written + n → (new : Line) → Begun new []
+        pub ended : (room : written + 65 ≤ length before) (shown : List ℕ) → length shown ≤ 65
+            → ((text : List ℕ) → Begun next text → shown ≡ line_of text)
+            → (out' : List ℕ) → out' ≡ placed out written shown → length out' ≡ length out → (to : ℕ) → to ≡ written + length shown → (new : Line) → Begun new []
             → Through line₀ input before out' new (end + 1) to
-        ended room p n lp ln says out' is' long to sum new b' =
-            let size : length (take n p) ≡ n = length-take-le n p (omega arith) in
+        ended room shown small says out' is' long to sum new b' =
             record {
               inside = omega arith;
               fits = omega arith;
@@ -134,17 +133,17 @@ module _ (line₀ : Line) (input before : List ℕ) where
                   let so = says (begun_by text (take end input)) (grown.begun text b) in
                   let P = printed_from text (take end input) in
                   let L = line_of (begun_by text (take end input)) in
-                  omega (arith, grown.count text b, length-append P L, ap length (printed_ended text), size, ap length so);
+                  omega (arith, grown.count text b, length-append P L, ap length (printed_ended text), ap length so);
               printed = λ text b.
                   let so = says (begun_by text (take end input)) (grown.begun text b) in
                   let P = printed_from text (take end input) in
+                  let n = length shown in
                   let w : length P ≡ written = sym (grown.count text b) in
                   let head : take written out ≡ P = ap (take written) (grown.printed text b) ∙ take_at P (drop written before) written w in
                   let rest : drop written out ≡ drop written before = ap (drop written) (grown.printed text b) ∙ drop_at P (drop written before) written w in
                   let tail : drop (written + n) out ≡ drop (written + n) before = sym (drop-drop n written out) ∙ ap (drop n) rest ∙ drop-drop n written before in
                   is'
-                  ∙ placed_room out written (take n p) (omega (arith, size, t.kept))
-                  ∙ ap (λ (k : ℕ). take written out ++ take n p ++ drop (written + k) out) size
+                  ∙ placed_room out written shown (omega (arith, t.kept))
                   ∙ ap₂ (λ (x y : List ℕ). x ++ y ++ drop (written + n) out) head so
                   ∙ ap₂ (λ (x y : List ℕ). x ++ y) (sym (printed_ended text)) (tail ∙ ap (λ (k : ℕ). drop k before) (sym sum));
             }

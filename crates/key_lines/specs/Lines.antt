@@ -1,6 +1,5 @@
 -- What the key lister prints: document 01's "The key lister".
-use Rattle.std.specs.Prelude.{ℕ, suc, ◌+◌, ◌-◌, ◌/◌, ◌%◌, cond, List, [], ◌∷◌, ◌++◌, eqb, ltb, length, replicate}
-use Rattle.std.proofs.Math.Option.{Option, some, none}
+use Rattle.std.specs.Prelude.{ℕ, suc, ◌+◌, ◌-◌, ◌/◌, ◌%◌, cond, List, [], ◌∷◌, ◌++◌, eqb, ltb, length, replicate, Option, Some, None}
 use Rattle.refusal.specs.Says.{number_in}
 use Rattle.refusal.specs.Outcome.{Outcome, given, refusal, refused}
 use Rattle.hexadecimal.specs.Digits.{text_of, bytes_of}
@@ -18,8 +17,8 @@ printed_of (refusal says) = (114 ∷ 101 ∷ 102 ∷ 117 ∷ 115 ∷ 101 ∷ 100
 
 -- the outcome of a line's text: 15 where it is no hexadecimal, else that of its bytes as a key
 abbrev pub decoded_id : Option (List ℕ) → Outcome (List ℕ)
-decoded_id none = refused 15
-decoded_id (some bytes) = content_id_of bytes
+decoded_id None = refused 15
+decoded_id (Some bytes) = content_id_of bytes
 
 -- what is printed for one line
 unfoldable pub line_of : List ℕ → List ℕ

@@ -4,16 +4,14 @@
 // 18 and whether a character was no digit.
 #![tactic(auto)]
 
-ghost use Rattle.std.specs.Prelude.{ℕ, ◌+◌, ◌≤◌, ◌≡◌, ◌||◌, not, List, [], ◌++◌, length, drop};
+ghost use Rattle.std.specs.Prelude.{ℕ, ◌+◌, ◌≤◌, ◌≡◌, ◌||◌, not, List, [], ◌++◌, length, drop, take, ◌∷◌, ◌==◌, position};
 ghost use Rattle.refusal.specs.Says.{says_of};
-ghost use Rattle.refusal.specs.Outcome.{given, refusal};
-ghost use Rattle.hexadecimal.specs.Digits.{value_of, is_digit};
-ghost use Rattle.content_key.specs.Key.{content_id_of};
-ghost use Rattle.key_lines.specs.Lines.{printed_of, line_of, line_length, last_of, padded};
+ghost use Rattle.refusal.specs.Outcome.{given, refusal, outcome_of};
+ghost use Rattle.hexadecimal.specs.Digits.{value_of, is_digit, bytes_of};
+ghost use Rattle.key_lines.specs.Lines.{printed_of, line_of, decoded_id, line_length, last_of, padded};
 ghost use Rattle.key_lines.specs.State.{capped, Begun, Lists};
 
-use hexadecimal::Digit;
-use refusal::{Checked, Refusal};
+use refusal::Refusal;
 
 // A line that has begun. Its fields are private: every value is one that `fresh` or `list` made, so it stands for some text.
 #[derive(Clone, Copy)]
@@ -24,10 +22,21 @@ pub struct Line {
 }
 
 // What is printed: the first `len` bytes of `text`. Line feeds fill the rest.
+// Kept: the text has no slice of its own, since edit other-filling and `padded` speak of the 65 places of the array.
 #[derive(Clone, Copy)]
 pub struct Printed {
     pub text: [u8; 65],
     pub len: usize,
+}
+
+impl Printed {
+    // The bytes that are printed.
+    pub fn line(&self) -> &[u8]
+        ensures { result.now ≡ take self.now.len self.now.text }
+    {
+        let n = self.len.min(65);
+        &self.text[..n]
+    }
 }
 
 // How far a call of `list` came: the line that has begun, how much of the input was used, and how much of the buffer was written.
@@ -56,6 +65,7 @@ pub fn list(line: Line, input: &[u8], out: &mut [u8]) -> Listed
     let mut line = line;
     let mut at = 0;
     let mut written = 0;
+    // Kept: no plainer, `at` goes by whole lines and `written` by what these print, until the input or the buffer ends.
     while at < input.len() {
         if out.len() - written < 65 {
             break;
@@ -65,10 +75,9 @@ pub fn list(line: Line, input: &[u8], out: &mut [u8]) -> Listed
         at = end;
         if end < input.len() {
             let printed = finish(line);
-            let len = printed.len;
-            let text = printed.text;
-            octets::put(&text[..len], out, written);
-            written += len;
+            let shown = printed.line();
+            octets::put(shown, out, written);
+            written += shown.len();
             line = fresh();
             at = end + 1;
         }
@@ -100,36 +109,47 @@ fn line_end(input: &[u8], from: usize) -> usize
     requires { from ≤ length input.now }
     ensures { result ≡ from + line_length (drop from input.now) }
 {
-    let mut i = from;
-    while i < input.len() {
-        if input[i] == b'\n' {
-            return i;
-        }
-        i += 1;
+    match first_feed(&input[from..]) {
+        Some(n) => from + n,
+        None => input.len(),
     }
-    i
+}
+
+// The index of the first line feed.
+fn first_feed(text: &[u8]) -> Option<usize>
+    ensures { result ≡ position (λ c. c == 10) text.now }
+{
+    text.iter().position(|c| *c == b'\n')
 }
 
 // The line with more of its text.
 fn feed(line: Line, part: &[u8]) -> Line
     ensures { (text : List ℕ) → Begun line text → Begun result (text ++ part.now) }
 {
-    let mut first = line.first;
-    let mut len = line.len;
-    let mut bad = line.bad;
-    for i in 0..part.len() {
-        let c = part[i];
-        if len < 18 {
-            first[len] = c;
-        }
-        len = longer(len);
-        bad = worse(bad, c);
+    let mut line = line;
+    for c in part {
+        line = longer(line, *c);
     }
-    Line { first, len, bad }
+    line
+}
+
+// The line with one character more.
+fn longer(line: Line, c: u8) -> Line
+    ensures { (text : List ℕ) → Begun line text → Begun result (text ++ (c ∷ [])) }
+{
+    let mut first = line.first;
+    if line.len < 18 {
+        first[line.len] = c;
+    }
+    Line {
+        first,
+        len: capped_more(line.len),
+        bad: worse(line.bad, c),
+    }
 }
 
 // A length, capped, with one character more.
-fn longer(len: usize) -> usize
+fn capped_more(len: usize) -> usize
     ensures { (n : ℕ) → len ≡ capped n → result ≡ capped (n + 1) }
 {
     if len < 20 { len + 1 } else { 19 }
@@ -139,56 +159,37 @@ fn longer(len: usize) -> usize
 fn worse(bad: bool, c: u8) -> bool
     ensures { result ≡ (bad || not (is_digit (value_of c))) }
 {
-    bad || !is_digit(c)
-}
-
-fn is_digit(c: u8) -> bool
-    ensures { result ≡ is_digit (value_of c) }
-{
-    let value = hexadecimal::value(c);
-    if let Digit::Other = value {
-        false
-    } else {
-        true
-    }
+    bad || hexadecimal::value(c).is_none()
 }
 
 // What is printed for the line.
-#[tactic(auto, using(crate::proofs::Answers::odd_text))]
 fn finish(line: Line) -> Printed
     ensures by_index { (text : List ℕ) → Begun line text → result ≡ padded (line_of text) }
     ensures len_bound { result.len ≤ 65 }
 {
-    let len = line.len;
-    if line.bad {
-        return refusal_line(Refusal::NotHex);
+    match content_id(line) {
+        Ok(id) => id_line(id),
+        Err(why) => refusal_line(why),
     }
-    if len % 2 != 0 {
-        return refusal_line(Refusal::NotHex);
-    }
-    if len != 18 {
-        return refusal_line(Refusal::KeyLength);
-    }
-    let first = line.first;
-    let mut key = [0u8; 9];
-    hexadecimal::decode(&first, &mut key);
-    key_line(key)
 }
 
-// What is printed for nine bytes.
-fn key_line(key: [u8; 9]) -> Printed
-    ensures value { result ≡ padded (printed_of (content_id_of key)) }
-    ensures len_bound { result.len ≤ 65 }
+// The content id of the key that the line is the text of.
+fn content_id(line: Line) -> Result<[u8; 32], Refusal>
+    ensures { (text : List ℕ) → Begun line text → outcome_of result ≡ decoded_id (bytes_of text) }
 {
-    let answer = content_key::content_id(&key);
-    let checked = answer.checked;
-    match checked {
-        Checked::Accepted => {
-            let id = answer.id;
-            id_line(id)
-        }
-        Checked::Refused(why) => refusal_line(why),
+    if line.bad {
+        return Err(Refusal::NotHex);
     }
+    if line.len % 2 != 0 {
+        return Err(Refusal::NotHex);
+    }
+    if line.len != 18 {
+        return Err(Refusal::KeyLength);
+    }
+    let mut key = [0u8; 9];
+    // Eighteen digits are nine bytes, so it is not refused.
+    let _ = hexadecimal::decode(&line.first, &mut key);
+    content_key::content_id(&key)
 }
 
 // An id's line.
@@ -207,20 +208,13 @@ fn refusal_line(why: Refusal) -> Printed
     ensures len_bound { result.len ≤ 65 }
 {
     let mut text = [b'\n'; 65];
-    text[0] = b'r';
-    text[1] = b'e';
-    text[2] = b'f';
-    text[3] = b'u';
-    text[4] = b's';
-    text[5] = b'e';
-    text[6] = b'd';
-    text[7] = b' ';
-    let n = refusal::number(why);
+    text[..8].copy_from_slice(b"refused ");
+    let n = u8::from(why);
     if n < 10 {
-        text[8] = 48 + n;
+        text[8] = b'0' + n;
         return Printed { text, len: 10 };
     }
-    text[8] = 48 + n / 10;
-    text[9] = 48 + n % 10;
+    text[8] = b'0' + n / 10;
+    text[9] = b'0' + n % 10;
     Printed { text, len: 11 }
 }

@@ -16,7 +16,7 @@ use Rattle.key_index.specs.View.{View, with_keys}
 use Rattle.key_index.specs.Good.{away_from, good}
 use Rattle.key_index.specs.Calls.{is_held}
 use Rattle.key_index.specs.Search.{place_from, place_of}
-use Rattle.key_index.specs.declared.Place.TheVariants.{At}
+use Rattle.std.specs.Prelude.{Some}
 use Rattle.key_index.specs.Keys.{Each}
 use Rattle.key_index.specs.Rules.{SortedFrom}
 use Rattle.key_index.proofs.Places.{place_inside, place_is, held_at}
@@ -29,13 +29,13 @@ record Around (i : ℕ) (key : List ℕ) (keys : List (List ℕ)) (j : ℕ) : Ty
   counted : j ≡ i + place
   rest : without key keys ≡ without_at place keys
 
-around : (i : ℕ) (key : List ℕ) (keys : List (List ℕ)) (j : ℕ) → place_from i key keys ≡ At j → Around i key keys j
+around : (i : ℕ) (key : List ℕ) (keys : List (List ℕ)) (j : ℕ) → place_from i key keys ≡ Some j → Around i key keys j
 unfolding place_from without without_at
 around i key [] j e = let z : ◌≡◌ {A = ℕ} 0 1 = cc in absurd (omega arith)
 around i key (k ∷ ks) j e = go (same_bytes key k) refl e (λ f. around (suc i) key ks j f)
   where
-    go : (t : Bool) → same_bytes key k ≡ t → cond t (At i) (place_from (suc i) key ks) ≡ At j
-        → (place_from (suc i) key ks ≡ At j → Around (suc i) key ks j) → Around i key (k ∷ ks) j
+    go : (t : Bool) → same_bytes key k ≡ t → cond t (Some i) (place_from (suc i) key ks) ≡ Some j
+        → (place_from (suc i) key ks ≡ Some j → Around (suc i) key ks j) → Around i key (k ∷ ks) j
     go true q f below =
         let h : i ≡ j = cc in
         record { place = 0; counted = omega arith; rest = rw q }
@@ -45,7 +45,7 @@ around i key (k ∷ ks) j e = go (same_bytes key k) refl e (λ f. around (suc i)
         record { place = suc b.place; counted = omega arith; rest = rw q (ap (λ (l : List (List ℕ)). k ∷ l) b.rest) }
 
 -- the keys before the place where the key is found, and those behind it, in the same order
-pub without_place : (key : List ℕ) (keys : List (List ℕ)) (i : ℕ) → place_of key keys ≡ At i → without key keys ≡ without_at i keys
+pub without_place : (key : List ℕ) (keys : List (List ℕ)) (i : ℕ) → place_of key keys ≡ Some i → without key keys ≡ without_at i keys
 without_place key keys i e =
     let a = around 0 key keys i e in
     a.rest ∙ sym (ap (λ (n : ℕ). without_at n keys) (a.counted ∙ zero-add a.place))

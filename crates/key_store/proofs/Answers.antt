@@ -1,10 +1,9 @@
--- The ways out of `store`, as cases of its definition, and an answer carried from one definition to another. Assumes nothing.
+-- The ways out of `store`, as cases of its definition. Assumes nothing.
 use Prim.Native.Nat.{ℕ, ◌≤◌, ◌<◌}
 use mathlib.Core.Path.{◌≡◌, refl, sym, ap, ◌∙◌}
 use mathlib.Core.Bool.{Bool, true, false}
 use mathlib.Core.List.{List}
 use lib.Dec.{leb}
-use lib.ListN.{replicate}
 use borrow.Author.Tests.{le-leb, lt-leb, leb-true, leb-false}
 use Rattle.refusal.specs.Says.{Said, only}
 use Rattle.refusal.specs.Outcome.{Outcome}
@@ -14,25 +13,9 @@ use Rattle.content_key.specs.Key.{block_of, key_of}
 use Rattle.rlp.specs.Content.{content_of}
 use Rattle.rlp.specs.declared.Payload.{Payload}
 use Rattle.key_index.specs.View.{View}
-use Rattle.key_index.specs.Search.{place_of}
-use Rattle.key_index.specs.declared.Place.TheVariants.{Nothing}
-use Rattle.key_index.proofs.Places.{nothing_held}
-use Rattle.octets.specs.Equal.{same_bytes, holds}
 use Rattle.key_index.specs.Good.{away_from, good, radius_of}
 use Rattle.key_index.specs.Calls.{is_held}
-use Rattle.key_index.specs.declared.KeyIndex.{KeyIndex}
-use Rattle.key_store.specs.Store.{Storing, refused, put_of, admit_of, examine_of, content_store_of, key_store_of, store_of}
-use Rattle.key_store.specs.Answer.{back, given_by, meaning_of, evicted_or0}
-use Rattle.key_store.specs.declared.StoreAnswer.{StoreAnswer}
-
--- what an answer says of an outcome, it says of any way to write the outcome
-pub answer_as : (index : KeyIndex) (r : StoreAnswer) (a s : Storing) → (meaning_of r ≡ given_by index a) × (r.evicted ≡ evicted_or0 a) → s ≡ a
-    → (meaning_of r ≡ given_by index s) × (r.evicted ≡ evicted_or0 s)
-answer_as index r a s h e = (h.0 ∙ ap (given_by index) (sym e), h.1 ∙ ap evicted_or0 (sym e))
-
--- a refused call hands the index back
-pub refused_as : (index : KeyIndex) (s : Storing) (says : Said) → s ≡ refused says → (back says index ≡ given_by index s) × (replicate 9 0 ≡ evicted_or0 s)
-refused_as index s says e = (ap (given_by index) (sym e), ap evicted_or0 (sym e))
+use Rattle.key_store.specs.Store.{refused, put_of, admit_of, examine_of, content_store_of, key_store_of, store_of}
 
 module _ (limit : ℕ) (v : View) (key : List ℕ) (payload : Payload) where
   pub admit_held : is_held key v ≡ true → refused (only 11) ≡ admit_of limit v key payload
@@ -46,10 +29,6 @@ module _ (limit : ℕ) (v : View) (key : List ℕ) (payload : Payload) where
   pub admit_put : is_held key v ≡ false → leb (away_from v.node key) (be (radius_of limit v)) ≡ true → put_of limit v key payload ≡ admit_of limit v key payload
   unfolding admit_of
   admit_put h w = rw (h, w)
-
--- where no place was found, the key is not held. The first part says nothing: it shows `grind` the call to match
-pub not_held : (key : List ℕ) (keys : List (List ℕ)) → (holds same_bytes key keys ≡ holds same_bytes key keys) × (place_of key keys ≡ Nothing → holds same_bytes key keys ≡ false)
-not_held key keys = (refl, nothing_held key keys)
 
 -- the number is tested before the content
 module _ (key content : List ℕ) (newest : ℕ) where

@@ -23,7 +23,8 @@ use Rattle.key_index.proofs.Rules.{good_facts}
 use Rattle.key_store.specs.Store.{put_of, admit_of, store_of}
 use Rattle.key_store.specs.Cases.{OfBytes, Asked, Fresh, Stores, bad, no_length, no_selector, future, no_content, held, beyond, room, full}
 use Rattle.key_store.proofs.Answers.{examine_future, examine_known, store_bad, store_key, store_content, store_admit, admit_held, admit_far, admit_put}
-use Rattle.key_store.proofs.Facts.{new_distance, reach_room, nearer_last, last_apart}
+use Rattle.key_index.proofs.Answers.{reach_room}
+use Rattle.key_store.proofs.Facts.{new_distance, nearer_last, last_apart}
 use Rattle.key_store.proofs.Putting.{put_room, put_full}
 
 module _ (limit : ℕ) (v : View) (key content : List ℕ) (newest : ℕ) (some : 0 < limit) (o : OfBytes v) (bytes : Bytes key) where

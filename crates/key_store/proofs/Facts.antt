@@ -1,6 +1,6 @@
 -- What the cases of storing rest on: a key that is not held has a distance of its own, since a distance gives its key back; a full index
 -- has a last key, which is its farthest. Assumes nothing.
-use Prim.Native.Nat.{ℕ, suc, ◌*◌, ◌≤◌, ◌<◌}
+use Prim.Native.Nat.{ℕ, suc, ◌≤◌, ◌<◌}
 use native.Mathlib.Nat.{le_of_lt}
 use native.Mathlib.Omega.{arith}
 use mathlib.Core.Path.{◌≡◌, refl, sym, ap, subst, ◌∙◌}
@@ -10,11 +10,10 @@ use mathlib.Core.List.{List, [], ◌∷◌, ◌++◌, Memᴰ}
 use mathlib.Core.Logic.{⊎_elim}
 use lib.Dec.{ltb}
 use lib.ListN.{length}
-use borrow.Author.Tests.{le-ltb, lt-ltb, ltb-true, ltb-false}
+use borrow.Author.Tests.{ltb-true, ltb-false}
 use Rattle.octets.specs.Bytes.{Bytes, be}
 use Rattle.octets.proofs.Numbers.{bytes_at_lem}
 use Rattle.octets.proofs.Equal.{member_holds}
-use Rattle.distance.specs.Distance.{xor_of}
 use Rattle.distance.proofs.Exclusive.{distance_inj}
 use Rattle.content_key.specs.Key.{key_id, selector_of, block_of}
 use Rattle.content_key.proofs.Ids.{id_length, id_bytes_ok, key_id_inj}
@@ -22,15 +21,15 @@ use Rattle.nearest.specs.Sorted.{◌among◌, distances}
 use Rattle.nearest.specs.Sorted as near
 use Rattle.nearest.proofs.Sorted.{sorted_last}
 use Rattle.nearest.proofs.Lists.{middle_self, last_split}
-use Rattle.key_index.specs.View.{View, chunks, key_at}
+use Rattle.key_index.specs.View.{View, chunks}
 use Rattle.key_index.specs.Good.{away_from, good, last_of, radius_of}
 use Rattle.key_index.specs.Calls.{is_held}
 use Rattle.key_index.specs.Keys.{NineBytes}
 use Rattle.key_index.specs.Rules.{SortedFrom, Good}
 use Rattle.key_index.proofs.Each.{each_member}
-use Rattle.key_index.proofs.Chunks.{chunks_length, key_at_in}
+use Rattle.key_index.proofs.Chunks.{chunks_length}
 use Rattle.key_index.proofs.Rules.{good_facts}
-use Rattle.key_index.proofs.Answers.{last_chunks}
+use Rattle.key_index.proofs.Answers.{reach_room, reach_full}
 use Rattle.key_store.specs.Cases.{OfBytes}
 
 -- the two ways to say sorted
@@ -72,16 +71,6 @@ last_apart l h =
     (s.0, s.2 ∙ ap (λ (k : List ℕ). s.0 ++ k ∷ []) (sym e))
 
 module _ (limit : ℕ) (v : View) where
-  -- with room left the radius is the cap
-  pub reach_room : length v.keys < limit → radius_of limit v ≡ v.cap
-  unfolding radius_of
-  reach_room h = rw (lt-ltb (length v.keys) limit h)
-
-  -- that of a full index is the distance of its last key
-  pub reach_full : limit ≤ length v.keys → radius_of limit v ≡ xor_of v.node (key_id (last_of v.keys))
-  unfolding radius_of
-  reach_full h = rw (le-ltb (length v.keys) limit h)
-
   -- a new key within the radius of a full index is nearer than the last
   pub nearer_last : (key : List ℕ) → limit ≤ length v.keys → 0 < limit → ¬ (away_from v.node key among distances (away_from v.node) v.keys)
       → away_from v.node key ≤ be (radius_of limit v) → away_from v.node key < away_from v.node (last_of v.keys)
@@ -90,7 +79,7 @@ module _ (limit : ℕ) (v : View) where
       let i : last_of v.keys among v.keys =
       subst (λ (l : List (List ℕ)). last_of v.keys among l) (sym s.1) (middle_self s.0 (last_of v.keys) []) in
       let n : ¬ (away_from v.node key ≡ away_from v.node (last_of v.keys)) = λ e. new (Memᴰ.cast e (Memᴰ.map (away_from v.node) i)) in
-      omega (arith, ap be (reach_full full))
+      omega (arith, ap be (reach_full limit v full))
 
   -- a held key is within the radius, so 10 and 11 are never both due
   pub held_within : (key : List ℕ) → good limit v ≡ true → key among v.keys → away_from v.node key ≤ be (radius_of limit v)
@@ -115,8 +104,8 @@ module _ (limit : ℕ) (v : View) where
       go : (t : Bool) → ltb (length v.keys) limit ≡ t → away_from v.node key ≤ be (radius_of limit v)
       go true e =
           let w : away_from v.node key ≤ be v.cap = each_member (λ (k : List ℕ). away_from v.node k ≤ be v.cap) v.keys f.each.within m in
-          omega (arith, ap be (reach_room (ltb-true (length v.keys) limit e)))
-      go false e = omega (arith, ap be (reach_full (ltb-false (length v.keys) limit e)), last (some v.keys m))
+          omega (arith, ap be (reach_room limit v (ltb-true (length v.keys) limit e)))
+      go false e = omega (arith, ap be (reach_full limit v (ltb-false (length v.keys) limit e)), last (some v.keys m))
 
 -- a flat array of as many keys as the limit
 module _ (n count : ℕ) (node cap b : List ℕ) (g : good (suc n) (record { node = node; cap = cap; keys = chunks count b }) ≡ true)
@@ -125,7 +114,3 @@ module _ (n count : ℕ) (node cap b : List ℕ) (g : good (suc n) (record { nod
   full_count =
       let few = (good_facts (suc n) (record { node = node; cap = cap; keys = chunks count b }) g).few in
       omega (arith, chunks_length count b)
-
-  -- its last key
-  pub full_last : 9 * suc n ≤ length b → key_at b n ≡ last_of (chunks count b)
-  full_last long = key_at_in b n long ∙ sym (ap (λ (m : ℕ). last_of (chunks m b)) full_count ∙ last_chunks n b)

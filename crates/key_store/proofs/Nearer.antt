@@ -1,26 +1,22 @@
--- Counting the keys that are nearer: the steps of the count in a flat array, and that a key at a new distance is inserted behind as many keys
+-- Counting the keys that are nearer: in sorted keys a search by halves finds how many, and a key at a new distance is inserted behind as many keys
 -- as are nearer. Each law goes by recursion on the list. Assumes nothing.
-use Prim.Native.Nat.{ℕ, suc, ◌+◌, ◌-◌, ◌*◌, ◌≤◌, ◌<◌}
-use native.Mathlib.Nat.{zero-add}
-use native.Mathlib.Numerals.{add-one}
+use Prim.Native.Nat.{ℕ, zero, suc, ◌≤◌, ◌<◌}
 use native.Mathlib.Omega.{arith}
-use mathlib.Core.Path.{◌≡◌, refl, sym, ap, ◌∙◌}
-use mathlib.Core.Bool.{Bool, true, false, cond}
+use mathlib.Core.Path.{◌≡◌, refl, ap, ◌∙◌}
+use mathlib.Core.Bool.{Bool, true, false, not, cond}
 use mathlib.Core.List.Memᴰ.{head as here}
 use mathlib.Core.List.Memᴰ.{tail as there}
 use mathlib.Core.List.{List, [], ◌∷◌, ◌++◌}
-use lib.Dec.{ltb}
-use lib.ListN.{length, take, drop}
-use borrow.Author.Tests.{lt-ltb, le-ltb, ltb-true, ltb-false}
-use Rattle.octets.specs.Bytes.{be}
-use Rattle.distance.specs.Distance.{xor_of}
-use Rattle.content_key.specs.Key.{key_id}
+use lib.Dec.{leb, ltb}
+use lib.ListN.{length, get_or, take, drop}
+use borrow.Author.Tests.{lt-leb, lt-ltb, le-ltb, ltb-true, ltb-false}
+use Rattle.std.specs.List.Sorted.{IsPartitionedBy, IsPartitionPoint}
+use Rattle.distance.proofs.Tested.{over_true, over_false}
 use Rattle.nearest.specs.Sorted.{◌among◌, distances}
 use Rattle.nearest.specs.Insert.{insert}
 use Rattle.nearest.proofs.Insert.{insert_less, insert_more}
-use Rattle.key_index.specs.View.{chunks, key_at}
 use Rattle.key_index.specs.Good.{away_from}
-use Rattle.key_index.proofs.Chunks.{chunks_rest, key_at_in}
+use Rattle.key_index.specs.Rules.{SortedFrom}
 use Rattle.key_store.specs.Move.{nearer}
 
 module _ (node : List ℕ) (far : ℕ) where
@@ -71,46 +67,50 @@ insert_behind node key (k ∷ ks) new = go (ltb (away_from node k) (away_from no
         by : away_from node key ≤ away_from node k → ¬ (away_from node key ≡ away_from node k) → away_from node key < away_from node k
         by h n = omega arith
 
--- the count at place i: i keys are nearer, and those from there on are still to be counted
-abbrev pub Counted : List ℕ → ℕ → List ℕ → ℕ → ℕ → Type 0
-Counted node far keys count i =
-    nearer node far (chunks count keys) ≡ i + nearer node far (chunks (count - i) (drop (9 * i) keys))
+-- the keys before place i are nearer, and the one there is not
+pub nearer_point : (node : List ℕ) (far : ℕ) (ks : List (List ℕ)) (i : ℕ) → i ≤ length ks
+    → ((k : ℕ) → k < i → away_from node (get_or ks k []) < far)
+    → (i < length ks → far ≤ away_from node (get_or ks i []))
+    → nearer node far ks ≡ i
+unfolding nearer
+nearer_point node far [] i l below last = omega arith
+nearer_point node far (k ∷ ks) zero l below last = nearer_here node far k ks (last (omega arith))
+nearer_point node far (k ∷ ks) (suc i) l below last =
+    nearer_later node far k ks (below 0 (omega arith))
+    ∙ ap suc (nearer_point node far ks i (omega arith) (λ j h. below (suc j) (omega arith)) (λ h. last (omega arith)))
 
-module _ (node far keys : List ℕ) (count : ℕ) where
-  -- before the first turn
-  pub count_start : Counted node (be far) keys count 0
-  count_start =
-      let e : count ≡ count - 0 = omega arith in
-      ap (λ (n : ℕ). nearer node (be far) (chunks n keys)) e ∙ sym (zero-add _)
+-- sorted keys are no nearer than the bound,
+sorted_over : (node : List ℕ) (from : ℕ) (ks : List (List ℕ)) (j : ℕ) (d : List ℕ) → SortedFrom node from ks → j < length ks → from ≤ away_from node (get_or ks j d)
+sorted_over node from [] j d s h = absurd (omega arith)
+sorted_over node from (k ∷ ks) zero d s h = s.0
+sorted_over node from (k ∷ ks) (suc j) d s h =
+    let l = s.0 in
+    omega (arith, sorted_over node (suc (away_from node k)) ks j d s.1 (omega arith))
 
-  -- after the last one
-  pub count_end : (i : ℕ) → Counted node (be far) keys count i → i ≤ count → count ≤ i → count ≡ nearer node (be far) (chunks count keys)
-  unfolding nearer chunks
-  count_end i s h l =
-      let e : count - i ≡ 0 = omega arith in
-      let z : nearer node (be far) (chunks (count - i) (drop (9 * i) keys)) ≡ 0 =
-      ap (λ (n : ℕ). nearer node (be far) (chunks n (drop (9 * i) keys))) e in
-      omega arith
+-- nor than those before them
+sorted_le : (node : List ℕ) (from : ℕ) (ks : List (List ℕ)) (i j : ℕ) (d : List ℕ) → SortedFrom node from ks → i ≤ j → j < length ks
+    → away_from node (get_or ks i d) ≤ away_from node (get_or ks j d)
+sorted_le node from [] i j d s h l = absurd (omega arith)
+sorted_le node from (k ∷ ks) zero zero d s h l = omega arith
+sorted_le node from (k ∷ ks) zero (suc j) d s h l = omega (arith, sorted_over node (suc (away_from node k)) ks j d s.1 (omega arith))
+sorted_le node from (k ∷ ks) (suc i) zero d s h l = absurd (omega arith)
+sorted_le node from (k ∷ ks) (suc i) (suc j) d s h l = sorted_le node (suc (away_from node k)) ks i j d s.1 (omega arith) (omega arith)
 
-  -- a turn, in which the key at place i was read and `held` is its distance
-  module _ (i : ℕ) (s : Counted node (be far) keys count i) (h : i < count) (long : 9 * count ≤ length keys)
-      (key : List ℕ) (read : key ≡ key_at keys i) (held : List ℕ) (is : held ≡ xor_of node (key_id key)) where
-    split : nearer node (be far) (chunks count keys) ≡ i + nearer node (be far) (key ∷ chunks (count - suc i) (drop (9 * suc i) keys))
-    split =
-        s
-        ∙ ap (λ (l : List (List ℕ)). i + nearer node (be far) l)
-        (chunks_rest count i keys h
-        ∙ ap (λ (k : List ℕ). k ∷ chunks (count - suc i) (drop (9 * suc i) keys)) (sym (read ∙ key_at_in keys i (omega arith))))
+-- the test that the search for the place asks of a key: it is nearer
+abbrev pub is_nearer : List ℕ → ℕ → List ℕ → Bool
+is_nearer node far key = not (leb far (away_from node key))
 
-    distance : be held ≡ away_from node key
-    distance = ap be is
+-- sorted keys pass it up to some place, and none from there on
+pub nearer_partitioned : (node : List ℕ) (far from : ℕ) (ks : List (List ℕ)) → SortedFrom node from ks → IsPartitionedBy (is_nearer node far) ks
+nearer_partitioned node far from ks s i j d h l e =
+    let b = over_true far (away_from node (get_or ks j d)) e in
+    rw (lt-leb far (away_from node (get_or ks i d)) (omega (arith, sorted_le node from ks i j d s h l)))
 
-    pub count_here : be far ≤ be held → i ≡ nearer node (be far) (chunks count keys)
-    count_here b =
-        let e = nearer_here node (be far) key (chunks (count - suc i) (drop (9 * suc i) keys)) (omega (arith, distance)) in
-        omega (arith, split)
-
-    pub count_next : be held < be far → Counted node (be far) keys count (i + 1)
-    count_next b =
-        let e = nearer_later node (be far) key (chunks (count - suc i) (drop (9 * suc i) keys)) (omega (arith, distance)) in
-        rw (add-one i) (omega (arith, split))
+-- and that place is how many are nearer
+pub partition_nearer : (node : List ℕ) (far : ℕ) (ks : List (List ℕ)) (i : ℕ) → i ≤ length ks
+    → IsPartitionPoint (λ (k : List ℕ). is_nearer node far k ≡ true) (λ (k : List ℕ). is_nearer node far k ≡ false) ks i
+    → nearer node far ks ≡ i
+partition_nearer node far ks i l p =
+    nearer_point node far ks i l
+    (λ k h. over_true far (away_from node (get_or ks k [])) (p.0 k [] (omega arith) h))
+    (λ h. over_false far (away_from node (get_or ks i [])) (p.1 i [] (omega arith) h))

@@ -22,16 +22,17 @@ use Rattle.key_index.specs.Good.{away_from, last_of}
 use Rattle.key_index.specs.Calls.{is_held}
 use Rattle.key_index.specs.Keys.{NineBytes}
 use Rattle.key_index.specs.declared.KeyIndex.{KeyIndex}
-use Rattle.key_index.proofs.Chunks.{chunks_length, chunks_more, chunks_nine, key_at_in}
+use Rattle.key_index.proofs.Chunks.{chunks_length, chunks_more, key_at_in}
 use Rattle.key_index.proofs.Rules.{good_facts}
 use Rattle.key_store.specs.Store.{stored, evicted, put_of}
-use Rattle.key_store.specs.Answer.{without, given_by, evicted_or0}
+use Rattle.key_store.specs.Answer.{without, given_by}
 use Rattle.key_store.specs.Move.{nearer, key_at_place}
 use Rattle.key_store.specs.Judge.{Fits}
 use Rattle.key_store.specs.Cases.{OfBytes}
 use Rattle.key_store.proofs.Nearer.{nearer_most, nearer_front, insert_behind}
 use Rattle.key_store.proofs.Flat.{chunks_place}
-use Rattle.key_store.proofs.Facts.{sorted_near, new_distance, nearer_last, full_count, full_last}
+use Rattle.key_index.proofs.Answers.{full_last}
+use Rattle.key_store.proofs.Facts.{sorted_near, new_distance, nearer_last, full_count}
 
 module _ (limit : ℕ) (v : View) (key : List ℕ) (payload : Payload) where
   pub put_room : length v.keys < limit → put_of limit v key payload ≡ stored payload (with_keys v (insert (away_from v.node) key v.keys))
@@ -55,10 +56,9 @@ module _ (node key b : List ℕ) (l : length key ≡ 9) where
       ∙ sym (insert_behind node key (chunks count b) new)
 
 -- the index with the key at place p, behind the nearer keys, has the view that the definition gives
-module _ (limit : ℕ) (index : KeyIndex) (key : List ℕ) (o : OfBytes (view index)) (nine : NineBytes key) (p : ℕ)
-    (f : Fits limit (view index) key p) where
+module _ (limit : ℕ) (index : KeyIndex) (key : List ℕ) (nine : NineBytes key) (p : ℕ) (f : Fits limit (view index) key p) where
   new : ¬ (away_from index.node key among distances (away_from index.node) (chunks index.count index.keys))
-  new = new_distance (view index) key o nine f.new
+  new = new_distance (view index) key f.made nine f.new
 
   -- the place is among those in use, or right behind them
   pub place_most : p ≤ index.count
@@ -68,18 +68,12 @@ module _ (limit : ℕ) (index : KeyIndex) (key : List ℕ) (o : OfBytes (view in
 
 -- with room left the key is inserted, and the index has one key more
 pub room_put : (limit : ℕ) (node cap keys : List ℕ) (count : ℕ) (key : List ℕ) (payload : Payload)
-    → is_held key (view_of node cap keys count) ≡ false → count < limit → 9 * limit ≤ length keys
-    → length node ≡ 32 → ((j : ℕ) → get_or node j 0 < 256) → ((j : ℕ) → get_or keys j 0 < 256)
+    → is_held key (view_of node cap keys count) ≡ false → OfBytes (view_of node cap keys count) → count < limit → 9 * limit ≤ length keys
     → length key ≡ 9 → ((j : ℕ) → get_or key j 0 < 256)
     → put_of limit (view_of node cap keys count) key payload
     ≡ stored payload (view_of node cap (key_at_place (nearer node (away_from node key) (chunks count keys)) count key keys) (count + 1))
-room_put limit node cap keys count key payload out room long n node_bytes keys_bytes nine key_bytes =
+room_put limit node cap keys count key payload out o room long nine key_bytes =
     let v = view_of node cap keys count in
-    let o : OfBytes v = record {
-      size = n;
-      node = bytes_all node node_bytes;
-      each = chunks_nine count keys (omega arith) (bytes_all keys keys_bytes);
-    } in
     let k : NineBytes key = record { size = nine; bytes = bytes_all key key_bytes } in
     let p = nearer node (away_from node key) (chunks count keys) in
     put_room limit v key payload (omega (arith, chunks_length count keys))
@@ -89,7 +83,7 @@ room_put limit node cap keys count key payload out room long n node_bytes keys_b
     ∙ chunks_room node key keys nine count p (omega arith) refl (new_distance v key o k out)))
 
 -- a full index, whose last place is `last`
-module _ (last : ℕ) (index : KeyIndex) (key : List ℕ) (o : OfBytes (view index)) (nine : NineBytes key) (p : ℕ)
+module _ (last : ℕ) (index : KeyIndex) (key : List ℕ) (nine : NineBytes key) (p : ℕ)
     (f : Fits (suc last) (view index) key p) (h : suc last ≤ index.count) (long : 9 * suc last ≤ length index.keys) where
   full : index.count ≡ suc last
   full = full_count last index.count index.node index.cap index.keys f.kept h
@@ -97,14 +91,14 @@ module _ (last : ℕ) (index : KeyIndex) (key : List ℕ) (o : OfBytes (view ind
   before : away_from index.node key < away_from index.node (last_of (chunks index.count index.keys))
   before =
       nearer_last (suc last) (view index) key (omega (arith, chunks_length index.count index.keys)) (omega arith)
-      (new (suc last) index key o nine p f) (leb-true _ _ f.near)
+      (new (suc last) index key nine p f) (leb-true _ _ f.near)
 
   apart : chunks index.count index.keys ≡ chunks last index.keys ++ last_of (chunks index.count index.keys) ∷ []
   apart =
       ap (λ (m : ℕ). chunks m index.keys) full
       ∙ chunks_more last index.keys
       ∙ ap (λ (k : List ℕ). chunks last index.keys ++ k ∷ [])
-      (sym (key_at_in index.keys last long) ∙ full_last last index.count index.node index.cap index.keys f.kept h long)
+      (sym (key_at_in index.keys last long) ∙ full_last last index.count last index.keys _ refl refl full long)
 
   -- the key's place is among the others'
   place : p ≡ nearer index.node (away_from index.node key) (chunks last index.keys)
@@ -121,35 +115,32 @@ module _ (last : ℕ) (index : KeyIndex) (key : List ℕ) (o : OfBytes (view ind
   pub full_answer : (payload : Payload) (from to n at : ℕ) (keys left : List ℕ) (handed : Payload)
       → keys ≡ key_at_place from to key index.keys → left ≡ key_at index.keys at
       → from ≡ p → to ≡ last → n ≡ suc last → at ≡ last → handed ≡ payload
-      → (without handed left (view_of index.node index.cap keys n) ≡ given_by index (put_of (suc last) (view index) key payload))
-      × (left ≡ evicted_or0 (put_of (suc last) (view index) key payload))
+      → without handed left (view_of index.node index.cap keys n) ≡ given_by index (put_of (suc last) (view index) key payload)
   full_answer payload from to n at keys left handed is read a b c d e =
       let ks = chunks index.count index.keys in
-      let fresh = new (suc last) index key o nine p f in
+      let fresh = new (suc last) index key nine p f in
       let due = sym (put_full (suc last) (view index) key payload (omega (arith, chunks_length index.count index.keys))) in
       let gone : left ≡ last_of ks =
-      read ∙ ap (key_at index.keys) d ∙ full_last last index.count index.node index.cap index.keys f.kept h long in
+      full_last last index.count at index.keys left read d full long in
       let held : chunks n keys ≡ offer (away_from index.node) (suc last) key ks =
       ap₂ chunks c (is ∙ ap₂ (λ (i j : ℕ). key_at_place i j key index.keys) a b)
       ∙ chunks_room index.node key index.keys nine.size last p long place
       (λ m. fresh (subst (λ (l : List (List ℕ)). away_from index.node key among distances (away_from index.node) l) (sym apart) (distances_front (away_from index.node) (chunks last index.keys) (last_of ks ∷ []) m)))
       ∙ sym (offer_near (away_from index.node) key (suc last) ks (chunks last index.keys) (last_of ks)
       (sorted_near index.node 0 ks (good_facts (suc last) (view index) f.kept).each.sorted)
-      (chunks_length index.count index.keys ∙ full) apart fresh before) in (
-        ap (λ (q : Payload). without q left (view_of index.node index.cap keys n)) e
-            ∙ ap₂ (λ (k : List ℕ) (l : List (List ℕ)). without payload k (with_keys (view index) l)) gone held
-            ∙ ap (given_by index) due,
-        gone ∙ ap evicted_or0 due,
-      )
+      (chunks_length index.count index.keys ∙ full) apart fresh before) in
+      ap (λ (q : Payload). without q left (view_of index.node index.cap keys n)) e
+      ∙ ap₂ (λ (k : List ℕ) (l : List (List ℕ)). without payload k (with_keys (view index) l)) gone held
+      ∙ ap (given_by index) due
 
 -- full or not, the place is no farther than the last one
-pub place_within : (last : ℕ) (index : KeyIndex) (key : List ℕ) → OfBytes (view index) → NineBytes key → (p : ℕ) → Fits (suc last) (view index) key p
+pub place_within : (last : ℕ) (index : KeyIndex) (key : List ℕ) → NineBytes key → (p : ℕ) → Fits (suc last) (view index) key p
     → 9 * suc last ≤ length index.keys → p ≤ last
-place_within last index key o nine p f long = go (dec_lt index.count (suc last))
+place_within last index key nine p f long = go (dec_lt index.count (suc last))
   where
     go : Dec (index.count < suc last) → p ≤ last
-    go (yes h) = omega (arith, place_most (suc last) index key o nine p f)
-    go (no h) = full_place last index key o nine p f (omega arith) long
+    go (yes h) = omega (arith, place_most (suc last) index key nine p f)
+    go (no h) = full_place last index key nine p f (omega arith) long
 
 -- what a key put in the room left comes to, with what an array of bytes is
 pub ruleset putting = (rules, room_put)

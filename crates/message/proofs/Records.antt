@@ -175,7 +175,7 @@ starts_offsets at (r ∷ rs) s b h e =
     ∙ sym (ap (λ (m : ℕ). take m s) n ∙ take-add 4 (4 * length rs) s)
 
 -- a list that passes the test is laid out for as many records as its first offset says
-test_laid : (s : List ℕ) → laid_out s ≡ true → Laid s (count_of s)
+pub test_laid : (s : List ℕ) → laid_out s ≡ true → Laid s (count_of s)
 unfolding laid_out count_of
 test_laid s e =
     let o = offset_of s in

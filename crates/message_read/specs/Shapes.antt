@@ -1,46 +1,41 @@
--- What the parts of reading say: the kinds that share a layout, the tests on a layout, and what a list of records is refused for.
-use Rattle.std.specs.Prelude.{ℕ, ◌+◌, ◌<◌, ◌≡◌, Bool, true, cond, List, length, drop}
-use Rattle.std.proofs.Math.Option.{some, none}
-use Rattle.refusal.specs.declared.Refusal.TheVariants.{Layout, TooManyItems, ItemRule}
-use Rattle.refusal.specs.declared.Checked.{Checked}
+-- What the parts of reading say: the rest behind a fixed part, and what a message of a radius, of distances or of a key alone comes to.
+use Rattle.std.specs.Prelude.{ℕ, ◌+◌, ◌<◌, ◌≡◌, cond, List, reverse, eqb, leb, length, drop}
+use Rattle.std.proofs.Math.Option.{Option, some, none}
+use Rattle.refusal.specs.Outcome.{Outcome, given, refused, map_outcome}
+use Rattle.refusal.specs.declared.Refusal.{Refusal}
+use Rattle.refusal.specs.declared.Refusal.TheVariants.{Layout}
+use Rattle.content_key.specs.Key.{key_of}
+use Rattle.message.specs.Rules.{all_different}
 use Rattle.message.specs.Decode.{rest_of}
-use Rattle.message.specs.declared.Kind.{Kind}
-use Rattle.message.specs.declared.Kind.TheVariants.{Ping, Pong, FindNode, FoundNodes, FindContent, FoundContent, Offer, Accept, Store, Refused}
-use Rattle.message_records.specs.declared.Verdict.{Verdict}
-use Rattle.message_records.specs.declared.Verdict.TheVariants.{Broken, TooMany, Bad, Good}
+use Rattle.message.specs.Report.{to_end}
+use Rattle.message.specs.declared.Part.{Part}
 
--- the type byte of a kind
-abbrev pub type_of : Kind → ℕ
-type_of Ping = 1
-type_of Pong = 2
-type_of FindNode = 3
-type_of FoundNodes = 4
-type_of FindContent = 5
-type_of FoundContent = 6
-type_of Offer = 7
-type_of Accept = 8
-type_of Store = 9
-type_of (Refused why) = 0
+-- a container has its fixed part of n bytes and the offset of the rest, and this is the rest
+pub record Rest (n : ℕ) (s r : List ℕ) : Type 0 where
+  pub value : rest_of n (drop 1 s) ≡ some r
+  pub same : r ≡ drop (n + 1) s
+  pub long : n < length s
 
--- the kinds that are a radius alone
-pub data RadiusKind : Kind → Type 0 where
-  is_ping : RadiusKind Ping
-  is_pong : RadiusKind Pong
+-- it has not, and is refused for its layout
+pub record NoRest (n : ℕ) (s : List ℕ) (why : Refusal) : Type 0 where
+  pub value : rest_of n (drop 1 s) ≡ none
+  pub refused : why ≡ Layout
 
--- the kinds that are a key alone
-pub data KeyKind : Kind → Type 0 where
-  is_find_content : KeyKind FindContent
-  is_offer : KeyKind Offer
-  is_accept : KeyKind Accept
+-- what comes of the rest where there is one, else 4
+abbrev pub with_rest : {A : Type 0} → (List ℕ → Outcome A) → Option (List ℕ) → Outcome A
+with_rest f none = refused 4
+with_rest f (some r) = f r
 
--- whether a container has its fixed part of n bytes and the offset of the rest, as the definition goes on
-pub record RestAt (n : ℕ) (s : List ℕ) (r : Bool) : Type 0 where
-  pub value : rest_of n (drop 1 s) ≡ cond r (some (drop (n + 1) s)) none
-  pub long : r ≡ true → n < length s
+-- a radius alone: 32 bytes, lightest first
+abbrev pub radius_in : List ℕ → Outcome (List ℕ)
+radius_in s = cond (eqb (length s) 33) (given (reverse (drop 1 s))) (refused 4)
 
--- what a verdict on records is refused for
-abbrev pub why_of : Verdict → Checked
-why_of Broken = Checked.Refused Layout
-why_of TooMany = Checked.Refused TooManyItems
-why_of Bad = Checked.Refused ItemRule
-why_of Good = Checked.Accepted
+-- distances alone: where they are, or 5 or 6
+abbrev pub distances_in : List ℕ → Outcome Part
+distances_in s =
+    with_rest (λ (ds : List ℕ). cond (leb (length ds) 256) (cond (all_different eqb ds) (given (to_end s 5)) (refused 6)) (refused 5))
+    (rest_of 4 (drop 1 s))
+
+-- a key alone: where it is, or 7 or 8
+abbrev pub key_in : List ℕ → Outcome Part
+key_in s = with_rest (λ (key : List ℕ). map_outcome (λ (k : List ℕ). to_end s 5) (key_of key)) (rest_of 4 (drop 1 s))

@@ -1,168 +1,158 @@
 // Reads any bytes as one of the nine messages.
 #![tactic(auto)]
 
-ghost use Rattle.std.specs.Prelude.{◌≤◌, ◌≡◌, drop};
+ghost use Rattle.std.specs.Prelude.{◌≤◌, ◌≡◌, length, drop, MatchResult};
+ghost use Rattle.octets.specs.Parts.{bytes_at};
+ghost use Rattle.refusal.specs.Outcome.{outcome_of};
 ghost use Rattle.message.specs.Decode.{two_offsets, layout_of, ruled_or4, decode};
-ghost use Rattle.message.specs.Report.{blank_of, with_part, with_places};
+ghost use Rattle.message.specs.Report.{to_end};
 ghost use Rattle.message.specs.Reading.{ReadTo};
-ghost use Rattle.message_read.specs.Shapes.{type_of, RadiusKind, KeyKind, RestAt, why_of};
+ghost use Rattle.message_read.specs.Shapes.{radius_in, distances_in, key_in, Rest, NoRest};
 
-use message::{Kind, Reading};
-use message_records::{Records, Verdict};
-use refusal::{Checked, Refusal};
+use message::{Part, Reading};
+use refusal::Refusal;
 
 // The message that the bytes are, or why they are none.
-pub fn read(message: &[u8]) -> Reading
+pub fn read(message: &[u8]) -> Result<Reading, Refusal>
     ensures { ReadTo (decode message.now) message.now result }
 {
-    if message.len() == 0 {
-        return refused(Refusal::EmptyMessage);
+    if message.is_empty() {
+        return Err(Refusal::EmptyMessage);
     }
     if 1280 < message.len() {
-        return refused(Refusal::LongMessage);
+        return Err(Refusal::LongMessage);
     }
-    let kind = message[0];
-    match kind {
-        1 => radius(message, Kind::Ping),
-        2 => radius(message, Kind::Pong),
-        3 => distances(message),
-        4 => nodes(message),
-        5 => key(message, Kind::FindContent),
+    match message[0] {
+        1 => Ok(Reading::Ping {
+            radius: radius(message)?,
+        }),
+        2 => Ok(Reading::Pong {
+            radius: radius(message)?,
+        }),
+        3 => Ok(Reading::FindNode {
+            distances: distances(message)?,
+        }),
+        4 => found_nodes(message),
+        5 => Ok(Reading::FindContent { key: key(message)? }),
         6 => found_content(message),
-        7 => key(message, Kind::Offer),
-        8 => key(message, Kind::Accept),
+        7 => Ok(Reading::Offer { key: key(message)? }),
+        8 => Ok(Reading::Accept { key: key(message)? }),
         9 => store(message),
-        _ => refused(Refusal::MessageType),
+        _ => Err(Refusal::MessageType),
     }
 }
 
-// A message of a radius alone: Ping, Pong.
-fn radius(message: &[u8], kind: Kind) -> Reading
-    requires { RadiusKind kind }
-    ensures { ReadTo (ruled_or4 (layout_of (type_of kind) (drop 1 message.now))) message.now result }
+// A radius alone, heaviest byte first: Ping, Pong.
+fn radius(message: &[u8]) -> Result<[u8; 32], Refusal>
+    ensures { outcome_of result ≡ radius_in message.now }
 {
     if message.len() != 33 {
-        return refused(Refusal::Layout);
+        return Err(Refusal::Layout);
     }
-    let radius = octets::reversed(octets::part32(message, 1));
-    let mut answer = blank(kind);
-    answer.radius = radius;
-    answer
+    Ok(octets::reversed(octets::part(message, 1)))
 }
 
-// A list of distances: FindNode.
-fn distances(message: &[u8]) -> Reading
-    ensures { ReadTo (ruled_or4 (layout_of 3 (drop 1 message.now))) message.now result }
+// A list of distances alone: FindNode.
+fn distances(message: &[u8]) -> Result<Part, Refusal>
+    ensures { outcome_of result ≡ distances_in message.now }
 {
-    if !has_rest(message, 4) {
-        return refused(Refusal::Layout);
+    let list = rest(message, 4)?;
+    let place = to_end(message, 5);
+    if 256 < place.len {
+        return Err(Refusal::TooManyItems);
     }
-    let len = message.len() - 5;
-    if 256 < len {
-        return refused(Refusal::TooManyItems);
+    if !message_rules::all_different(list) {
+        return Err(Refusal::ItemRule);
     }
-    if !message_rules::all_different(&message[5..]) {
-        return refused(Refusal::ItemRule);
-    }
-    part(Kind::FindNode, 5, len)
-}
-
-// A list of records with a total: FoundNodes.
-fn nodes(message: &[u8]) -> Reading
-    ensures { ReadTo (ruled_or4 (layout_of 4 (drop 1 message.now))) message.now result }
-{
-    if !has_rest(message, 5) {
-        return refused(Refusal::Layout);
-    }
-    let found = message_records::read_records(message, 6, message.len());
-    let verdict = found.verdict;
-    let checked = reason(verdict);
-    match checked {
-        Checked::Refused(why) => refused(why),
-        Checked::Accepted => {
-            let total = message[1];
-            if total == 0 {
-                return refused(Refusal::ItemRule);
-            }
-            let mut answer = with_records(Kind::FoundNodes, found);
-            answer.total = total;
-            answer
-        }
-    }
+    Ok(place)
 }
 
 // A key alone: FindContent, Offer, Accept.
-fn key(message: &[u8], kind: Kind) -> Reading
-    requires { KeyKind kind }
-    ensures { ReadTo (ruled_or4 (layout_of (type_of kind) (drop 1 message.now))) message.now result }
+fn key(message: &[u8]) -> Result<Part, Refusal>
+    ensures { outcome_of result ≡ key_in message.now }
 {
-    if has_rest(message, 4) {
-        let found = content_key::key(&message[5..]);
-        let checked = found.checked;
-        match checked {
-            Checked::Accepted => part(kind, 5, message.len() - 5),
-            Checked::Refused(why) => refused(why),
-        }
-    } else {
-        refused(Refusal::Layout)
+    content_key::key(rest(message, 4)?)?;
+    Ok(to_end(message, 5))
+}
+
+// A list of records with a total: FoundNodes.
+fn found_nodes(message: &[u8]) -> Result<Reading, Refusal>
+    ensures { ReadTo (ruled_or4 (layout_of 4 (drop 1 message.now))) message.now result }
+{
+    rest(message, 5)?;
+    let records = message_records::read_records(message, 6, message.len())?;
+    let total = message[1];
+    if total == 0 {
+        return Err(Refusal::ItemRule);
     }
+    Ok(Reading::FoundNodes { total, records })
 }
 
 // A connection id, records and content: FoundContent.
-fn found_content(message: &[u8]) -> Reading
+fn found_content(message: &[u8]) -> Result<Reading, Refusal>
     ensures { ReadTo (ruled_or4 (layout_of 6 (drop 1 message.now))) message.now result }
 {
     if !two_offsets(message) {
-        return refused(Refusal::Layout);
+        return Err(Refusal::Layout);
     }
     let end = 1 + message_rules::offset(message, 9);
-    let found = message_records::read_records(message, 13, end);
-    let verdict = found.verdict;
-    let checked = reason(verdict);
-    match checked {
-        Checked::Refused(why) => refused(why),
-        Checked::Accepted => {
-            let id = octets::part4(message, 1);
-            let count = found.count;
-            let len = message.len() - end;
-            if 1 < message_rules::things(id, count, len) {
-                return refused(Refusal::ItemRule);
-            }
-            let mut answer = with_records(Kind::FoundContent, found);
-            answer.connection = id;
-            answer.start = end;
-            answer.len = len;
-            answer
-        }
+    let records = message_records::read_records(message, 13, end)?;
+    let connection = connection_id(message);
+    let content = to_end(message, end);
+    if 1 < message_rules::things(connection, records.count, content.len) {
+        return Err(Refusal::ItemRule);
     }
+    Ok(Reading::FoundContent {
+        connection,
+        records,
+        content,
+    })
 }
 
 // A connection id and content: Store.
-fn store(message: &[u8]) -> Reading
+fn store(message: &[u8]) -> Result<Reading, Refusal>
     ensures { ReadTo (ruled_or4 (layout_of 9 (drop 1 message.now))) message.now result }
 {
-    if !has_rest(message, 8) {
-        return refused(Refusal::Layout);
+    rest(message, 8)?;
+    let connection = connection_id(message);
+    let content = to_end(message, 9);
+    if message_rules::things(connection, 0, content.len) != 1 {
+        return Err(Refusal::ItemRule);
     }
-    let id = octets::part4(message, 1);
-    let len = message.len() - 9;
-    if message_rules::things(id, 0, len) != 1 {
-        return refused(Refusal::ItemRule);
-    }
-    let mut answer = part(Kind::Store, 9, len);
-    answer.connection = id;
-    answer
+    Ok(Reading::Store {
+        connection,
+        content,
+    })
 }
 
-// The container's fixed part has n bytes, and its last four are the offset of the rest, which is n.
-fn has_rest(message: &[u8], n: usize) -> bool
+// What stands behind the container's fixed part of n bytes, whose last four are the offset of the rest, which is n.
+fn rest(message: &[u8], n: usize) -> Result<&[u8], Refusal>
     requires { (4 ≤ n) × (n ≤ 8) }
-    ensures { RestAt n message.now result }
+    ensures { MatchResult result (λ rest. Rest n message.now rest.now) (λ why. NoRest n message.now why) }
 {
-    if message.len() <= n {
-        return false;
+    if message.len() <= n || message_rules::offset(message, n - 3) != n {
+        Err(Refusal::Layout)
+    } else {
+        Ok(&message[n + 1..])
     }
-    message_rules::offset(message, n - 3) == n
+}
+
+// The part of the message from an index to its end.
+fn to_end(message: &[u8], start: usize) -> Part
+    requires { start ≤ length message.now }
+    ensures { result ≡ to_end message.now start }
+{
+    Part {
+        start,
+        len: message.len() - start,
+    }
+}
+
+// The connection id behind the type.
+fn connection_id(message: &[u8]) -> [u8; 4]
+    ensures { result ≡ bytes_at 4 1 message.now }
+{
+    octets::part(message, 1)
 }
 
 // The two offsets of FoundContent: 12, and one from 12 to the container's length.
@@ -176,67 +166,5 @@ fn two_offsets(message: &[u8]) -> bool
         return false;
     }
     let second = message_rules::offset(message, 9);
-    if second < 12 {
-        return false;
-    }
-    second < message.len()
-}
-
-// What a list of records is refused for.
-fn reason(verdict: Verdict) -> Checked
-    ensures { result ≡ why_of verdict }
-{
-    match verdict {
-        Verdict::Broken => Checked::Refused(Refusal::Layout),
-        Verdict::TooMany => Checked::Refused(Refusal::TooManyItems),
-        Verdict::Bad => Checked::Refused(Refusal::ItemRule),
-        Verdict::Good => Checked::Accepted,
-    }
-}
-
-// An answer with records and nothing more.
-fn with_records(kind: Kind, found: Records) -> Reading
-    ensures { result ≡ with_places found.count found.starts found.lens (blank_of kind) }
-{
-    let starts = found.starts;
-    let lens = found.lens;
-    let mut answer = blank(kind);
-    answer.count = found.count;
-    answer.starts = starts;
-    answer.lens = lens;
-    answer
-}
-
-// An answer with a part of the message and nothing more.
-fn part(kind: Kind, start: usize, len: usize) -> Reading
-    ensures { result ≡ with_part start len (blank_of kind) }
-{
-    let mut answer = blank(kind);
-    answer.start = start;
-    answer.len = len;
-    answer
-}
-
-// A refusal: no data beside it.
-fn refused(why: Refusal) -> Reading
-    ensures { result ≡ blank_of (Kind.Refused why) }
-{
-    blank(Kind::Refused(why))
-}
-
-// An answer with nothing but its kind.
-fn blank(kind: Kind) -> Reading
-    ensures { result ≡ blank_of kind }
-{
-    Reading {
-        kind,
-        radius: [0u8; 32],
-        total: 0,
-        connection: [0u8; 4],
-        start: 0,
-        len: 0,
-        count: 0,
-        starts: [0usize; 32],
-        lens: [0usize; 32],
-    }
+    12 <= second && second < message.len()
 }

@@ -8,16 +8,15 @@ use mathlib.Core.Bool.{true}
 use mathlib.Core.List.{List, [], ◌∷◌, ◌++◌, map}
 use lib.ListN.{length, get_or, take, drop, set, replicate, length-drop, length-map, length-set, take-append-drop}
 use lib.Seq.{drop-drop, drop-set-lt, get_or-set_same, get_or-set_other, get_or-take, ext_get_or, length-take-le, take_all, take-take}
-use borrow.Author.Count.{below_none, below_more}
+use borrow.Author.Count.{below_more}
 use Rattle.message.specs.Records.{offsets_of, ordered, between}
 use Rattle.message.proofs.Reports.{gaps_length}
-use Rattle.message.specs.Report.{in32, gaps, starts_of, lens_of}
-use Rattle.message.specs.Reading.{part_at, records_at}
+use Rattle.message.specs.Report.{in32, gaps, starts_of, lens_of, places_at}
+use Rattle.message.specs.Reading.{part_at, records_of_places, PlacesInside}
+use Rattle.message.specs.declared.Places.{Places}
 use Rattle.message.proofs.Records.{between_length, offsets_count}
-use Rattle.message_rules.specs.Good.{Places}
-use Rattle.message_rules.proofs.Places.{part_length, records_length, record_at_lem, in32_length, in32_at}
-use Rattle.message_records.specs.Places.{offset_at, places_at}
-use Rattle.message_records.specs.declared.Verdict.TheVariants.{Good}
+use Rattle.message_rules.proofs.Places.{records_length, record_at_lem, in32_at}
+use Rattle.message_records.specs.Places.{offset_at}
 use Rattle.message_records.proofs.Offsets.{part_drop, offsets_rise}
 
 -- the first i of 32 cells hold a function's values, the others zeros
@@ -25,9 +24,6 @@ pub record Filled (f : ℕ → ℕ) (i : ℕ) (a : List ℕ) : Type 0 where
   pub all : length a ≡ 32
   pub used : (k : ℕ) → k < i → get_or a k 0 ≡ f k
   pub rest : drop i a ≡ replicate (32 - i) 0
-
-pub filled_none : (f : ℕ → ℕ) → Filled f 0 (replicate 32 0)
-filled_none f = record { all = refl; used = below_none (λ (k : ℕ). get_or (replicate 32 0) k 0 ≡ f k); rest = refl }
 
 pub filled_more : (f : ℕ → ℕ) (i : ℕ) (a : List ℕ) → i < 32 → Filled f i a → (v : ℕ) → v ≡ f i → Filled f (i + 1) (set a i v)
 filled_more f i a h w v is =
@@ -84,87 +80,82 @@ gaps_at end (a ∷ b ∷ os) zero h = refl
 gaps_at end (a ∷ b ∷ os) (suc k) h = gaps_at end (b ∷ os) k (omega arith)
 
 -- where a record of the list at a base starts in the message, and its length
-abbrev pub start_of : List ℕ → ℕ → ℕ → ℕ → ℕ → ℕ
-start_of s base size count k = base + offset_at (part_at s base size) size count k
+abbrev pub start_of : List ℕ → ℕ → ℕ → ℕ → ℕ
+start_of l base count k = base + offset_at l count k
 
-abbrev pub len_of : List ℕ → ℕ → ℕ → ℕ → ℕ → ℕ
-len_of s base size count k = offset_at (part_at s base size) size count (k + 1) - offset_at (part_at s base size) size count k
+abbrev pub len_of : List ℕ → ℕ → ℕ → ℕ
+len_of l count k = offset_at l count (k + 1) - offset_at l count k
 
--- a record between the offsets is the part at its place
-between_part : (s : List ℕ) (base size count k : ℕ) → base + size ≤ length s
-    → ordered size (offsets_of count (part_at s base size)) ≡ true → k < count
-    → get_or (between (part_at s base size) (offsets_of count (part_at s base size))) k []
-    ≡ part_at s (start_of s base size count k) (len_of s base size count k)
-unfolding offset_at
-between_part s base size count k fits order h =
-    let l = part_at s base size in
-    let os = offsets_of count l in
-    let o = get_or os k size in
-    let n = get_or os (k + 1) size - o in
-    let rise = offsets_rise l size count k order h in
-    between_at l os size k (part_length s base size fits) (omega (arith, offsets_count count l))
-    ∙ ap (λ (q : ℕ). take (get_or os q size - o) (drop o l)) (sym (add-one k))
-    ∙ ap (take n) (part_drop s base size o (omega arith) fits)
-    ∙ take-take n (size - o) (drop (base + o) s) (omega arith)
-
-module _ (s : List ℕ) (base size count : ℕ) (few : count ≤ 32) where
-  abbrev list : List ℕ
-  list = part_at s base size
-
+module _ (l : List ℕ) (base count : ℕ) (few : count ≤ 32) where
   abbrev os : List ℕ
-  os = offsets_of count list
+  os = offsets_of count l
 
   many : length os ≡ count
-  many = offsets_count count list
+  many = offsets_count count l
 
-  start_is : (k : ℕ) → k < count → start_of s base size count k ≡ get_or (map (λ (o : ℕ). base + o) os) k 0
+  start_is : (k : ℕ) → k < count → start_of l base count k ≡ get_or (map (λ (o : ℕ). base + o) os) k 0
   unfolding offset_at
-  start_is k h = sym (map_at base os size k (omega (arith, many)))
+  start_is k h = sym (map_at base os (length l) k (omega (arith, many)))
 
-  len_is : (k : ℕ) → k < count → len_of s base size count k ≡ get_or (gaps size os) k 0
+  len_is : (k : ℕ) → k < count → len_of l count k ≡ get_or (gaps (length l) os) k 0
   unfolding offset_at
-  len_is k h = rw add-one (sym (gaps_at size os k (omega (arith, many))))
+  len_is k h = rw add-one (sym (gaps_at (length l) os k (omega (arith, many))))
 
   -- two arrays that are filled so are the places by the offsets
-  pub placed : (starts lens : List ℕ) (i : ℕ) → i ≡ count → Filled (start_of s base size count) i starts → Filled (len_of s base size count) i lens
-      → record { verdict = Good; count = count; starts = starts; lens = lens } ≡ places_at base size os
+  pub placed : (starts lens : List ℕ) (i : ℕ) → i ≡ count → Filled (start_of l base count) i starts → Filled (len_of l count) i lens
+      → record { count = count; starts = starts; lens = lens } ≡ places_at base (length l) os
   unfolding starts_of lens_of
   placed starts lens i is fs fl =
       let moved = map (λ (o : ℕ). base + o) os in
       let a : starts ≡ in32 moved =
-      filled_is (start_of s base size count) count starts moved (rw is at fs) few (length-map os (λ (o : ℕ). base + o) ∙ many) start_is in
-      let b : lens ≡ in32 (gaps size os) =
-      filled_is (len_of s base size count) count lens (gaps size os) (rw is at fl) few (gaps_length size os ∙ many) len_is in
+      filled_is (start_of l base count) count starts moved (rw is at fs) few (length-map os (λ (o : ℕ). base + o) ∙ many) start_is in
+      let b : lens ≡ in32 (gaps (length l) os) =
+      filled_is (len_of l count) count lens (gaps (length l) os) (rw is at fl) few (gaps_length (length l) os ∙ many) len_is in
       cc many
 
-  start_at : (k : ℕ) → k < count → get_or (starts_of base os) k 0 ≡ start_of s base size count k
+  start_at : (k : ℕ) → k < count → get_or (starts_of base os) k 0 ≡ start_of l base count k
   unfolding starts_of
   start_at k h = in32_at (map (λ (o : ℕ). base + o) os) k (omega (arith, many, length-map os (λ (o : ℕ). base + o))) ∙ sym (start_is k h)
 
-  len_at : (k : ℕ) → k < count → get_or (lens_of size os) k 0 ≡ len_of s base size count k
+  len_at : (k : ℕ) → k < count → get_or (lens_of (length l) os) k 0 ≡ len_of l count k
   unfolding lens_of
-  len_at k h = in32_at (gaps size os) k (omega (arith, many, gaps_length size os)) ∙ sym (len_is k h)
+  len_at k h = in32_at (gaps (length l) os) k (omega (arith, many, gaps_length (length l) os)) ∙ sym (len_is k h)
 
-  module _ (fits : base + size ≤ length s) (order : ordered size os ≡ true) where
-    -- they lie in the message
-    pub places_in_lem : Places s (starts_of base os) (lens_of size os) count
-    unfolding starts_of lens_of
+  -- where the list is a part of some bytes
+  module _ (s : List ℕ) (is : l ≡ part_at s base (length l)) (fits : base + length l ≤ length s) (order : ordered (length l) os ≡ true) where
+    abbrev there : Places
+    there = places_at base (length l) os
+
+    -- they lie in the bytes
+    pub places_in_lem : PlacesInside s there
     places_in_lem =
         record {
-          few = few;
-          starts_all = in32_length (map (λ (o : ℕ). base + o) os) (omega (arith, many, length-map os (λ (o : ℕ). base + o)));
-          lens_all = in32_length (gaps size os) (omega (arith, many, gaps_length size os));
-          inside = λ k h. omega (arith, start_at k h, len_at k h, offsets_rise list size count k order h);
+          few = omega (arith, many);
+          inside = λ k h.
+              let less : k < count = omega (arith, many) in
+              omega (arith, start_at k less, len_at k less, offsets_rise l count k order less);
         }
 
+    -- a record between the offsets is the part at its place
+    between_part : (k : ℕ) → k < count → get_or (between l os) k [] ≡ part_at s (start_of l base count k) (len_of l count k)
+    unfolding offset_at
+    between_part k h =
+        let o = get_or os k (length l) in
+        let n = get_or os (k + 1) (length l) - o in
+        let rise = offsets_rise l count k order h in
+        between_at l os (length l) k refl (omega (arith, many))
+        ∙ ap (λ (q : ℕ). take (get_or os q (length l) - o) (drop o l)) (sym (add-one k))
+        ∙ ap (take n) (ap (drop o) is ∙ part_drop s base (length l) o (omega arith) fits)
+        ∙ take-take n (length l - o) (drop (base + o) s) (omega arith)
+
     -- and hold the records between the offsets
-    pub places_hold : records_at s (starts_of base os) (lens_of size os) count ≡ between list os
+    pub places_hold : records_of_places s there ≡ between l os
     places_hold =
-        let all = records_length s (starts_of base os) (lens_of size os) count in
-        ext_get_or [] (records_at s (starts_of base os) (lens_of size os) count) (between list os)
-        (all ∙ sym (between_length list os ∙ many))
+        let all = records_length s there.starts there.lens there.count in
+        ext_get_or [] (records_of_places s there) (between l os)
+        (all ∙ sym (between_length l os))
         (λ k h.
-        let less : k < count = omega (arith, all) in
-        record_at_lem s (starts_of base os) (lens_of size os) count k less
+        let less : k < count = omega (arith, all, many) in
+        record_at_lem s there.starts there.lens there.count k (omega (arith, all))
         ∙ ap₂ (part_at s) (start_at k less) (len_at k less)
-        ∙ sym (between_part s base size count k fits order less))
+        ∙ sym (between_part k less))

@@ -1,4 +1,4 @@
 pub mod Offsets
-pub mod Filled
 pub mod Layouts
+pub mod Filled
 pub mod Answers

@@ -1,144 +1,92 @@
 // The list of records in a message, for FoundNodes and FoundContent: its layout, the number of records, and the rules on them.
 #![tactic(auto)]
 
-ghost use Rattle.std.specs.Prelude.{◌+◌, ◌*◌, ◌≤◌, ◌≡◌, true, length};
+ghost use Rattle.std.specs.Prelude.{◌+◌, ◌*◌, ◌^◌, ◌≤◌, ◌<◌, ◌≡◌, true, length};
 ghost use Rattle.message.specs.Records.{offsets_of, ordered};
-ghost use Rattle.message.specs.Reading.{part_at};
+ghost use Rattle.message.specs.Report.{places_at};
 ghost use Rattle.message_records.specs.Found.{RecordsIn};
-ghost use Rattle.message_records.specs.Places.{nothing, laid_count, offset_at, places_at};
+ghost use Rattle.message_records.specs.Places.{laid_count, offset_at};
 
-// What the list comes to.
-#[derive(Clone, Copy)]
-pub enum Verdict {
-    // The layout is broken.
-    Broken,
-    // More than 32 records.
-    TooMany,
-    // A record of no bytes or of more than 300, or two that are equal.
-    Bad,
-    Good,
-}
+use message::Places;
+use refusal::Refusal;
 
-// The verdict, and where the records are in the message if it is good.
-#[derive(Clone, Copy)]
-pub struct Records {
-    pub verdict: Verdict,
-    pub count: usize,
-    pub starts: [usize; 32],
-    pub lens: [usize; 32],
-}
-
-// The list of records that stands in the message from `base` up to `end`.
-pub fn read_records(message: &[u8], base: usize, end: usize) -> Records
+// The list of records that stands in the message from `base` up to `end`: 4 where there is no such part or its layout is broken, 5 for
+// more than 32 records, 6 for a record of no bytes or of more than 300, or two that are equal.
+pub fn read_records(message: &[u8], base: usize, end: usize) -> Result<Places, Refusal>
     ensures { RecordsIn message.now base end result }
 {
-    if end < base {
-        return none(Verdict::Broken);
-    }
-    if message.len() < end {
-        return none(Verdict::Broken);
-    }
-    if base == end {
-        return none(Verdict::Good);
-    }
-    let size = end - base;
-    let count = layout(message, base, size);
-    if count == 0 {
-        return none(Verdict::Broken);
-    }
+    let Some(list) = message.get(base..end) else {
+        return Err(Refusal::Layout);
+    };
+    let Some(count) = layout(list) else {
+        return Err(Refusal::Layout);
+    };
     if 32 < count {
-        return none(Verdict::TooMany);
+        return Err(Refusal::TooManyItems);
     }
-    let found = places(message, base, size, count);
-    let starts = found.starts;
-    let lens = found.lens;
-    if !message_rules::good_records(message, starts, lens, count) {
-        return none(Verdict::Bad);
+    let found = places(list, base, count);
+    if !message_rules::good_records(message, &found) {
+        return Err(Refusal::ItemRule);
     }
-    found
+    Ok(found)
 }
 
-// No records, with a verdict.
-fn none(verdict: Verdict) -> Records
-    ensures { result ≡ nothing verdict }
+// The number of records of a list, if its layout is right. Every offset is examined.
+fn layout(list: &[u8]) -> Option<usize>
+    ensures { result ≡ laid_count list.now }
 {
-    Records {
-        verdict,
-        count: 0,
-        starts: [0usize; 32],
-        lens: [0usize; 32],
+    if list.is_empty() {
+        return Some(0);
     }
-}
-
-// The number of records of a list that has bytes, or 0 where its layout is broken. Every offset is examined.
-fn layout(s: &[u8], base: usize, size: usize) -> usize
-    requires { base + size ≤ length s.now }
-    ensures { result ≡ laid_count (part_at s.now base size) }
-{
-    if size < 4 {
-        return 0;
-    }
-    let first = message_rules::offset(s, base);
-    if first < 4 {
-        return 0;
-    }
-    if first % 4 != 0 {
-        return 0;
-    }
-    if size < first {
-        return 0;
+    let first = message_rules::offset(list, 0);
+    if first < 4 || first % 4 != 0 || list.len() < first {
+        return None;
     }
     let count = first / 4;
-    if ordered(s, base, size, count) {
-        count
+    if ordered(list, count) {
+        Some(count)
     } else {
-        0
+        None
     }
 }
 
 // No offset is smaller than the one before, and none passes the end.
-fn ordered(s: &[u8], base: usize, size: usize, count: usize) -> bool
-    requires { (base + size ≤ length s.now) × (4 * count ≤ size) }
-    ensures { result ≡ ordered size (offsets_of count (part_at s.now base size)) }
+fn ordered(list: &[u8], count: usize) -> bool
+    requires { count < 2 ^ 62 }
+    ensures { result ≡ ordered (length list.now) (offsets_of count list.now) }
 {
-    for i in 0..count {
-        let here = offset_at(s, base, size, count, i);
-        let next = offset_at(s, base, size, count, i + 1);
-        if next < here {
-            return false;
-        }
-    }
-    true
+    (0..count).all(|i| offset_at(list, count, i) <= offset_at(list, count, i + 1))
 }
 
 // The offset of a record, or past the last record the list's size, where the last one ends.
-fn offset_at(s: &[u8], base: usize, size: usize, count: usize, i: usize) -> usize
-    requires { (base + size ≤ length s.now) × (4 * count ≤ size) }
-    ensures { result ≡ offset_at (part_at s.now base size) size count i }
+fn offset_at(list: &[u8], count: usize, i: usize) -> usize
+    requires { count < 2 ^ 62 }
+    ensures { result ≡ offset_at list.now count i }
 {
     if i < count {
-        message_rules::offset(s, base + 4 * i)
+        message_rules::offset(list, 4 * i)
     } else {
-        size
+        list.len()
     }
 }
 
-// Where each of at most 32 records is.
-fn places(s: &[u8], base: usize, size: usize, count: usize) -> Records
-    requires size_in_bounds { (base + size ≤ length s.now) × (4 * count ≤ size) × (count ≤ 32) }
-    requires size_value { ordered size (offsets_of count (part_at s.now base size)) ≡ true }
-    ensures { result ≡ places_at base size (offsets_of count (part_at s.now base size)) }
+// Where each of at most 32 records is, in the bytes in which the list stands at `base`.
+fn places(list: &[u8], base: usize, count: usize) -> Places
+    requires count_few { count ≤ 32 }
+    requires base_room { base + length list.now < 2 ^ 64 }
+    requires in_order { ordered (length list.now) (offsets_of count list.now) ≡ true }
+    ensures { result ≡ places_at base (length list.now) (offsets_of count list.now) }
 {
-    let mut starts = [0usize; 32];
-    let mut lens = [0usize; 32];
+    let mut starts = [0; 32];
+    let mut lens = [0; 32];
+    // Kept: no plainer, two offsets are read and a cell of two arrays is written at each turn.
     for i in 0..count {
-        let start = offset_at(s, base, size, count, i);
-        let next = offset_at(s, base, size, count, i + 1);
+        let start = offset_at(list, count, i);
+        let next = offset_at(list, count, i + 1);
         starts[i] = base + start;
         lens[i] = next - start;
     }
-    Records {
-        verdict: Verdict::Good,
+    Places {
         count,
         starts,
         lens,

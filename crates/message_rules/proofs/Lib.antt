@@ -1,6 +1,7 @@
 pub mod Places
-pub mod Lengths
-pub mod Pairs
-pub mod Flags
-pub mod Good
 pub mod Present
+pub mod Flags
+pub mod Lengths
+pub mod Good
+pub mod Pairs
+pub mod Judged

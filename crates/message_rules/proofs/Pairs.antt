@@ -7,7 +7,8 @@ use mathlib.Core.List.{List, []}
 use lib.ListN.{get_or}
 use Rattle.octets.proofs.Pairs as pairs
 use Rattle.message.specs.Rules.{same_bytes, all_different}
-use Rattle.message.specs.Reading.{records_at}
+use Rattle.message.specs.Reading.{records_of_places}
+use Rattle.message.specs.declared.Places.{Places}
 use Rattle.message_rules.proofs.Places.{between, part_between, records_length, record_at_lem}
 
 -- before a row, and inside one
@@ -18,9 +19,18 @@ abbrev pub Row : List (List ℕ) → ℕ → ℕ → ℕ → Type 0
 Row rs n i j = pairs.Row same_bytes [] rs n i j
 
 -- the records at some places
-module _ (s starts lens : List ℕ) (n : ℕ) where
+module _ (s : List ℕ) (places : Places) where
+  abbrev starts : List ℕ
+  starts = places.starts
+
+  abbrev lens : List ℕ
+  lens = places.lens
+
+  abbrev n : ℕ
+  n = places.count
+
   abbrev pub records : List (List ℕ)
-  records = records_at s starts lens n
+  records = records_of_places s places
 
   -- before the first row
   pub clear_start : Clear records n 0

@@ -2,10 +2,12 @@
 use Prim.Native.Nat.{ℕ, suc, ◌+◌}
 use native.Mathlib.Omega.{arith}
 use mathlib.Core.Path.{◌≡◌, refl, sym}
+use mathlib.Core.Bool.{Bool, true, false}
 use mathlib.Core.List.{List, [], ◌∷◌}
 use lib.Dec.{ltb}
 use lib.ListN.{length}
 use borrow.Author.Tests.{lt-ltb}
+use mir.Val.{bool_byte}
 use Rattle.message.specs.Rules.{one, present, connected}
 use Rattle.message_rules.specs.Things.{things_of}
 
@@ -24,3 +26,8 @@ things_three connection records content = rw (present_length records, present_le
 pub things_two : (connection content : List ℕ) → one (connected connection) + one (present content) ≡ things_of connection 0 (length content)
 unfolding things_of
 things_two connection content = rw (present_length content) (omega arith)
+
+-- a test as a number
+pub test_one : (b : Bool) → bool_byte b ≡ one b
+test_one true = refl
+test_one false = refl

@@ -1,97 +1,49 @@
 -- What the rules and the bytes of the two messages with records come to, once the records that are lent have their answer. Assumes nothing.
-use Prim.Native.Nat.{ℕ, zero, suc, ◌+◌, ◌≤◌, ◌<◌}
-use native.Mathlib.Omega.{arith}
+use Prim.Native.Nat.{ℕ, ◌+◌, ◌≤◌, ◌<◌}
 use mathlib.Core.Path.{◌≡◌, refl, sym, ap, ◌∙◌}
-use mathlib.Core.Bool.{Bool, true, false, cond, ◌&&◌, and_comm}
+use mathlib.Core.Bool.{Bool, cond, ◌&&◌, and_comm}
 use mathlib.Core.List.{List, [], ◌∷◌, ◌++◌, append-nil}
 use mathlib.Core.Option.{Option, some, none}
 use lib.Dec.{leb, ltb}
-use lib.ListN.{length, get_or}
-use borrow.Author.Tests.{le-leb, lt-leb, lt-ltb, leb-true}
-use Rattle.octets.proofs.Tests.{both}
+use lib.ListN.{length}
+use borrow.Author.Tests.{le-leb, lt-leb, lt-ltb}
+use Rattle.std.specs.Prelude.{Ok, Err}
 use Rattle.refusal.specs.Says.{says_of}
-use Rattle.refusal.specs.Outcome.{Outcome, refusal, refused}
-use Rattle.refusal.proofs.Outcomes.{same_refusal, accepted_not}
+use Rattle.refusal.specs.Outcome.{Outcome, given, refused, refusal}
 use Rattle.refusal.specs.declared.Refusal.{Refusal}
-use Rattle.refusal.specs.declared.Refusal.TheVariants.{TooManyItems, ItemRule}
-use Rattle.refusal.specs.declared.Checked.TheVariants.{Accepted, Refused}
 use Rattle.message.specs.Values.{Message, found_nodes, found_content}
 use Rattle.message.specs.Encode.{offset, list_bytes, encode}
-use Rattle.message.specs.Rules.{one, present, connected, all_different, same_bytes, record_sizes, good_records, ruled, rules_of}
-use Rattle.message.specs.Reading.{records_at}
+use Rattle.message.specs.Rules.{one, present, connected, good_records, ruled, rules_of}
+use Rattle.message.specs.Decode.{map_some, ruled_or4}
+use Rattle.message.specs.Reading.{records_of_places}
+use Rattle.message.specs.declared.Places.{Places}
 use Rattle.message_rules.specs.Things.{things_of}
-use Rattle.message_rules.proofs.Places.{part_length, records_length, record_at_lem}
+use Rattle.message_rules.proofs.Places.{records_length}
 use Rattle.message_rules.proofs.Present.{things_three}
-use Rattle.message_write.specs.Lent.{lent, lent_why, LentTo}
+use Rattle.message_rules.proofs.Judged.{judged_refused, judged_tested}
+use Rattle.message_write.specs.Lent.{lent, LentTo}
 use Rattle.message_write.specs.Write.{fitting, ruled_bytes, bytes_for_lent}
-use Rattle.message_write.specs.declared.records.Lent.{Lent}
 
--- what is left of the rules once the records have their answer
-why_refused : (few good more : Bool) (m : Message) (room : ℕ) (why : Refusal)
-    → cond few (cond good Accepted (Refused ItemRule)) (Refused TooManyItems) ≡ Refused why
-    → ruled_bytes (ruled few (good && more) m) room ≡ refusal (says_of why)
-why_refused false good more m room why e = same_refusal e
-why_refused true false more m room why e = same_refusal e
-why_refused true true more m room why e = accepted_not why e
-
-why_accepted : (few good more : Bool) (m : Message) (room : ℕ) → cond few (cond good Accepted (Refused ItemRule)) (Refused TooManyItems) ≡ Accepted
-    → ruled_bytes (ruled few (good && more) m) room ≡ cond more (fitting (encode m) room) (refused 6)
-why_accepted false good more m room e = accepted_not _ (sym e)
-why_accepted true false more m room e = accepted_not _ (sym e)
-why_accepted true true true m room e = refl
-why_accepted true true false m room e = refl
-
-why_good : (few good : Bool) → cond few (cond good Accepted (Refused ItemRule)) (Refused TooManyItems) ≡ Accepted → good ≡ true
-why_good few true e = refl
-why_good false false e = accepted_not _ (sym e)
-why_good true false e = accepted_not _ (sym e)
-
--- records whose sizes are good have at most 300 bytes each
-size_at : (rs : List (List ℕ)) → record_sizes rs ≡ true → (i : ℕ) → i < length rs → length (get_or rs i []) ≤ 300
-unfolding record_sizes
-size_at [] e i h = absurd (omega arith)
-size_at (r ∷ rs) e zero h =
-    leb-true (length r) 300 (both (leb 1 (length r)) (leb (length r) 300) (both (leb 1 (length r) && leb (length r) 300) (record_sizes rs) e).0).1
-size_at (r ∷ rs) e (suc i) h = size_at rs (both (leb 1 (length r) && leb (length r) 300) (record_sizes rs) e).1 i (omega arith)
+-- a message of records that are lent is ruled as one that is read
+lent_ruled : (f : List (List ℕ) → Message) (o : Option (List (List ℕ))) (room : ℕ) → bytes_for_lent f o room ≡ ruled_bytes (ruled_or4 (map_some f o)) room
+lent_ruled f none room = refl
+lent_ruled f (some rs) room = refl
 
 -- records that are lent, and their answer
-module _ (s starts lens : List ℕ) (r : Lent) (l : LentTo s starts lens r) where
-  abbrev records : List (List ℕ)
-  records = records_at s r.starts r.lens r.count
-
-  answered : r.checked ≡ Accepted → lent_why (some records) ≡ Accepted
-  answered e = sym (ap lent_why (l.records e)) ∙ sym l.checked ∙ e
-
-  -- each has at most 300 bytes
-  pub lent_small : r.checked ≡ Accepted → (i : ℕ) → i < r.count → get_or r.lens i 0 ≤ 300
-  lent_small e i h =
-      let good = why_good (leb (length records) 32) (good_records records) (answered e) in
-      let sizes = (both (record_sizes records) (all_different same_bytes records) good).0 in
-      let n = records_length s r.starts r.lens r.count in
-      omega (
-        arith,
-        size_at records sizes i (omega arith),
-        ap length (record_at_lem s r.starts r.lens r.count i h),
-        part_length s (get_or r.starts i 0) (get_or r.lens i 0) (l.places.inside i h),
-      )
-
+module _ (s starts lens : List ℕ) where
   -- a message of records, whose rules are those of the records and one test more
   module _ (f : List (List ℕ) → Message) (more : List (List ℕ) → Bool)
       (rules : (rs : List (List ℕ)) → rules_of (f rs) ≡ ruled (leb (length rs) 32) (good_records rs && more rs) (f rs)) (room : ℕ) where
-    refused_by : (o : Option (List (List ℕ))) (why : Refusal) → lent_why o ≡ Refused why → bytes_for_lent f o room ≡ refusal (says_of why)
-    refused_by none why e = same_refusal e
-    refused_by (some rs) why e =
-        ap (λ (m : Outcome Message). ruled_bytes m room) (rules rs)
-        ∙ why_refused (leb (length rs) 32) (good_records rs) (more rs) (f rs) room why e
+    found_refused : (why : Refusal) → LentTo s starts lens (Err why) → bytes_for_lent f (lent s starts lens) room ≡ refusal (says_of why)
+    found_refused why l =
+        lent_ruled f (lent s starts lens) room
+        ∙ ap (λ (m : Outcome Message). ruled_bytes m room) (judged_refused f more rules (lent s starts lens) (says_of why) l.value)
 
-    found_refused : (why : Refusal) → r.checked ≡ Refused why → bytes_for_lent f (lent s starts lens) room ≡ refusal (says_of why)
-    found_refused why e = refused_by (lent s starts lens) why (sym l.checked ∙ e)
-
-    found_tested : r.checked ≡ Accepted → bytes_for_lent f (lent s starts lens) room ≡ cond (more records) (fitting (encode (f records)) room) (refused 6)
-    found_tested e =
-        ap (λ (o : Option (List (List ℕ))). bytes_for_lent f o room) (l.records e)
-        ∙ ap (λ (m : Outcome Message). ruled_bytes m room) (rules records)
-        ∙ why_accepted (leb (length records) 32) (good_records records) (more records) (f records) room (answered e)
+    found_tested : (p : Places) → LentTo s starts lens (Ok p)
+        → bytes_for_lent f (lent s starts lens) room ≡ ruled_bytes (cond (more (records_of_places s p)) (given (f (records_of_places s p))) (refused 6)) room
+    found_tested p l =
+        lent_ruled f (lent s starts lens) room
+        ∙ ap (λ (m : Outcome Message). ruled_bytes m room) (judged_tested f more rules (lent s starts lens) (records_of_places s p) l.value)
 
   -- FoundNodes
   module _ (total room : ℕ) where
@@ -99,23 +51,24 @@ module _ (s starts lens : List ℕ) (r : Lent) (l : LentTo s starts lens r) wher
     unfolding rules_of
     nodes_rules rs = ap (λ (b : Bool). ruled (leb (length rs) 32) b (found_nodes total rs)) (and_comm (ltb 0 total) (good_records rs))
 
-    pub nodes_refused : (why : Refusal) → r.checked ≡ Refused why → bytes_for_lent (found_nodes total) (lent s starts lens) room ≡ refusal (says_of why)
+    pub nodes_refused : (why : Refusal) → LentTo s starts lens (Err why) → bytes_for_lent (found_nodes total) (lent s starts lens) room ≡ refusal (says_of why)
     nodes_refused = found_refused (found_nodes total) (λ (rs : List (List ℕ)). ltb 0 total) nodes_rules room
 
-    nodes_tested : r.checked ≡ Accepted → bytes_for_lent (found_nodes total) (lent s starts lens) room
-        ≡ cond (ltb 0 total) (fitting (encode (found_nodes total records)) room) (refused 6)
-    nodes_tested = found_tested (found_nodes total) (λ (rs : List (List ℕ)). ltb 0 total) nodes_rules room
+    module _ (p : Places) (l : LentTo s starts lens (Ok p)) where
+      nodes_tested : bytes_for_lent (found_nodes total) (lent s starts lens) room
+          ≡ ruled_bytes (cond (ltb 0 total) (given (found_nodes total (records_of_places s p))) (refused 6)) room
+      nodes_tested = found_tested (found_nodes total) (λ (rs : List (List ℕ)). ltb 0 total) nodes_rules room p l
 
-    pub nodes_none : r.checked ≡ Accepted → total ≡ 0 → bytes_for_lent (found_nodes total) (lent s starts lens) room ≡ refused 6
-    nodes_none e z = nodes_tested e ∙ ap (λ (n : ℕ). cond (ltb 0 n) (fitting (encode (found_nodes total records)) room) (refused 6)) z
+      pub nodes_none : total ≡ 0 → bytes_for_lent (found_nodes total) (lent s starts lens) room ≡ refused 6
+      nodes_none z = nodes_tested ∙ ap (λ (n : ℕ). ruled_bytes (cond (ltb 0 n) (given (found_nodes total (records_of_places s p))) (refused 6)) room) z
 
-    pub nodes_good : r.checked ≡ Accepted → 0 < total → (head : List ℕ) (t : ℕ) → head ≡ 4 ∷ t ∷ offset 5 → t ≡ total
-        → bytes_for_lent (found_nodes total) (lent s starts lens) room ≡ fitting (head ++ list_bytes records ++ []) room
-    unfolding encode
-    nodes_good e some-total head t h q =
-        nodes_tested e
-        ∙ rw (lt-ltb 0 total some-total, h, q)
-        (ap (λ (b : List ℕ). fitting b room) (sym (append-nil (4 ∷ total ∷ (offset 5 ++ list_bytes records)))))
+      pub nodes_good : 0 < total → (head : List ℕ) (t : ℕ) → head ≡ 4 ∷ t ∷ offset 5 → t ≡ total
+          → bytes_for_lent (found_nodes total) (lent s starts lens) room ≡ fitting (head ++ list_bytes (records_of_places s p) ++ []) room
+      unfolding encode
+      nodes_good some-total head t h q =
+          nodes_tested
+          ∙ rw (lt-ltb 0 total some-total, h, q)
+          (ap (λ (b : List ℕ). fitting b room) (sym (append-nil (4 ∷ total ∷ (offset 5 ++ list_bytes (records_of_places s p))))))
 
   -- FoundContent
   module _ (connection content : List ℕ) (room : ℕ) where
@@ -129,27 +82,26 @@ module _ (s starts lens : List ℕ) (r : Lent) (l : LentTo s starts lens r) wher
     unfolding rules_of
     content_rules rs = refl
 
-    pub content_refused : (why : Refusal) → r.checked ≡ Refused why → bytes_for_lent made (lent s starts lens) room ≡ refusal (says_of why)
+    pub content_refused : (why : Refusal) → LentTo s starts lens (Err why) → bytes_for_lent made (lent s starts lens) room ≡ refusal (says_of why)
     content_refused = found_refused made alone content_rules room
 
-    module _ (n : ℕ) (is : n ≡ things_of connection r.count (length content)) (e : r.checked ≡ Accepted) where
-      counted : one (connected connection) + one (present records) + one (present content) ≡ n
+    module _ (p : Places) (l : LentTo s starts lens (Ok p)) (n : ℕ) (is : n ≡ things_of connection p.count (length content)) where
+      counted : one (connected connection) + one (present (records_of_places s p)) + one (present content) ≡ n
       counted =
-          things_three connection records content
-          ∙ ap (λ (k : ℕ). things_of connection k (length content)) (records_length s r.starts r.lens r.count)
+          things_three connection (records_of_places s p) content
+          ∙ ap (λ (k : ℕ). things_of connection k (length content)) (records_length s p.starts p.lens p.count)
           ∙ sym is
 
-      content_tested : bytes_for_lent made (lent s starts lens) room ≡ cond (leb n 1) (fitting (encode (made records)) room) (refused 6)
+      content_tested : bytes_for_lent made (lent s starts lens) room ≡ ruled_bytes (cond (leb n 1) (given (made (records_of_places s p))) (refused 6)) room
       content_tested =
-          found_tested made alone content_rules room e
-          ∙ ap (λ (k : ℕ). cond (leb k 1) (fitting (encode (made records)) room) (refused 6)) counted
+          found_tested made alone content_rules room p l
+          ∙ ap (λ (k : ℕ). ruled_bytes (cond (leb k 1) (given (made (records_of_places s p))) (refused 6)) room) counted
 
       pub content_bad : 1 < n → bytes_for_lent made (lent s starts lens) room ≡ refused 6
       content_bad h = content_tested ∙ rw (lt-leb n 1 h)
 
-      pub content_good : n ≤ 1 → (size : ℕ) → size ≡ length (list_bytes records)
+      pub content_good : n ≤ 1 → (size : ℕ) → size ≡ length (list_bytes (records_of_places s p))
           → (head : List ℕ) → head ≡ 6 ∷ (connection ++ offset 12 ++ offset (12 + size))
-          → bytes_for_lent made (lent s starts lens) room ≡ fitting (head ++ list_bytes records ++ content) room
+          → bytes_for_lent made (lent s starts lens) room ≡ fitting (head ++ list_bytes (records_of_places s p) ++ content) room
       unfolding encode
-      content_good h size long head as-made =
-          content_tested ∙ rw (le-leb n 1 h, as-made, long)
+      content_good h size long head as-made = content_tested ∙ rw (le-leb n 1 h, as-made, long)

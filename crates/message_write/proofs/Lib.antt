@@ -1,4 +1,3 @@
-pub mod Offsets
 pub mod Puts
 pub mod Answers
 pub mod Sums

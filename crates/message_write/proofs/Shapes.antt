@@ -1,11 +1,11 @@
 -- What the rules and the bytes of each message without records come to, by the tests of the code. Assumes nothing.
 use Prim.Native.Nat.{ℕ, ◌+◌, ◌≤◌, ◌<◌}
 use mathlib.Core.Path.{◌≡◌, sym, ap, ap₂, ◌∙◌}
-use mathlib.Core.Bool.{Bool, true, false, not}
+use mathlib.Core.Bool.{Bool, true, false}
 use mathlib.Core.List.{List, [], ◌∷◌, ◌++◌, reverse}
 use lib.Dec.{eqb}
 use lib.ListN.{length}
-use borrow.Author.Tests.{le-leb, lt-leb, eq-eqb, ne_eqb, not-true, not-false}
+use borrow.Author.Tests.{le-leb, lt-leb, eq-eqb, ne_eqb}
 use Rattle.refusal.specs.Says.{Said}
 use Rattle.refusal.specs.Outcome.{given, refusal, refused}
 use Rattle.content_key.specs.Key.{key_of}
@@ -13,10 +13,10 @@ use Rattle.message.specs.Values.{find_node, store}
 use Rattle.message.specs.Encode.{offset, encode}
 use Rattle.message.specs.Rules.{one, present, connected, all_different, rules_of}
 use Rattle.refusal.specs.Buffer.{Writes}
-use Rattle.refusal.specs.declared.Wrote.{Wrote}
+use Rattle.std.specs.Prelude.{Result}
+use Rattle.refusal.specs.declared.Refusal.{Refusal}
 use Rattle.message_write.specs.Kinds.{probe_of, key_message_of, probe_type, key_type}
 use Rattle.message_write.specs.Write.{fitting, bytes_for}
-use Rattle.message_write.specs.Parts.{TwoWritten}
 use Rattle.message_rules.specs.Things.{things_of}
 use Rattle.message_rules.proofs.Present.{things_two}
 use Rattle.message_write.proofs.Answers.{writes_as}
@@ -32,10 +32,9 @@ unfolding rules_of encode
 probe_good Ping radius room head rest e f = ap₂ (λ (k l : List ℕ). fitting (k ++ l) room) (sym e) (sym f)
 probe_good Pong radius room head rest e f = ap₂ (λ (k l : List ℕ). fitting (k ++ l) room) (sym e) (sym f)
 
-pub probe_writes : (kind : Probe) (radius : List ℕ) {head rest d a : List ℕ} {r : Wrote} → TwoWritten head rest r d a
-    → (t : ℕ) → head ≡ t ∷ [] → t ≡ probe_type kind → rest ≡ reverse radius → Writes (bytes_for (probe_of kind radius) (length d)) r d a
-probe_writes kind radius {head} {rest} {d} w t h e f =
-    writes_as w.writes (probe_good kind radius (length d) head rest (h ∙ ap (λ (k : ℕ). k ∷ []) e) f)
+pub probe_writes : (kind : Probe) (radius : List ℕ) {rest d a : List ℕ} {r : Result ℕ Refusal} (t : ℕ) → Writes (fitting (t ∷ [] ++ rest) (length d)) r d a
+    → t ≡ probe_type kind → rest ≡ reverse radius → Writes (bytes_for (probe_of kind radius) (length d)) r d a
+probe_writes kind radius {rest} {d} t w e f = writes_as w (probe_good kind radius (length d) (t ∷ []) rest (ap (λ (k : ℕ). k ∷ []) e) f)
 
 -- FindNode
 module _ (ds : List ℕ) (room : ℕ) where
@@ -44,14 +43,14 @@ module _ (ds : List ℕ) (room : ℕ) where
   distances_many h = rw (lt-leb (length ds) 256 h)
 
   module _ (few : length ds ≤ 256) (t : Bool) (is : t ≡ all_different eqb ds) where
-    pub distances_equal : not t ≡ true → bytes_for (find_node ds) room ≡ refused 6
+    pub distances_equal : t ≡ false → bytes_for (find_node ds) room ≡ refused 6
     unfolding rules_of
-    distances_equal e = rw (le-leb (length ds) 256 few, ← is, not-true t e)
+    distances_equal e = rw (le-leb (length ds) 256 few, ← is, e)
 
-    pub distances_good : not t ≡ false → (head : List ℕ) (k : ℕ) → head ≡ k ∷ offset 4 → k ≡ 3
+    pub distances_good : t ≡ true → (head : List ℕ) (k : ℕ) → head ≡ k ∷ offset 4 → k ≡ 3
         → bytes_for (find_node ds) room ≡ fitting (head ++ ds) room
     unfolding rules_of encode
-    distances_good e head k h q = rw (le-leb (length ds) 256 few, ← is, not-false t e, h, q)
+    distances_good e head k h q = rw (le-leb (length ds) 256 few, ← is, e, h, q)
 
 -- FindContent, Offer, Accept
 pub key_bad : (kind : KeyMessage) (key : List ℕ) (room : ℕ) (says : Said) → refusal says ≡ key_of key → bytes_for (key_message_of kind key) room ≡ refusal says

@@ -9,8 +9,8 @@ use lib.ListN.{length, get_or, length-append}
 use Rattle.octets.specs.Buffer.{placed}
 use Rattle.octets.proofs.Numbers.{le_bytes_length}
 use Rattle.message.specs.Encode.{offset, offsets_from, joined, list_bytes}
-use Rattle.message.specs.Reading.{part_at, records_at}
-use Rattle.message_rules.specs.Good.{Places}
+use Rattle.message.specs.Reading.{part_at, records_at, records_of_places, PlacesInside}
+use Rattle.message.specs.declared.Places.{Places}
 use Rattle.message_rules.proofs.Places.{part_length, records_length}
 use Rattle.message_write.specs.Parts.{Put, sum_to, offsets_to}
 use Rattle.message_write.proofs.Sums.{sum_none, sum_more, sum_rise}
@@ -91,74 +91,74 @@ module _ (lens : List ℕ) (count at : ℕ) (d : List ℕ) where
         subst (λ (k : ℕ). Put d at (offsets_to (4 * count) lens k) out) last o.put
 
 -- the first records have as many bytes as their lengths say
-pub joined_size : (s starts lens : List ℕ) (n : ℕ) → Places s starts lens n → (i : ℕ) → i ≤ n → length (joined (records_at s starts lens i)) ≡ sum_to lens i
+pub joined_size : (s : List ℕ) (p : Places) → PlacesInside s p → (i : ℕ) → i ≤ p.count → length (joined (records_at s p.starts p.lens i)) ≡ sum_to p.lens i
 unfolding records_at joined sum_to
-joined_size s starts lens n p zero h = refl
-joined_size s starts lens n p (suc i) h =
-    let rs = records_at s starts lens i in
-    let r = part_at s (get_or starts i 0) (get_or lens i 0) in
+joined_size s p k zero h = refl
+joined_size s p k (suc i) h =
+    let rs = records_at s p.starts p.lens i in
+    let r = part_at s (get_or p.starts i 0) (get_or p.lens i 0) in
     omega (
       arith,
       ap length (joined_more rs r),
       length-append (joined rs) r,
-      joined_size s starts lens n p i (omega arith),
-      part_length s (get_or starts i 0) (get_or lens i 0) (p.inside i (omega arith)),
+      joined_size s p k i (omega arith),
+      part_length s (get_or p.starts i 0) (get_or p.lens i 0) (k.inside i (omega arith)),
     )
 
 -- the records are written one by one
-pub record Records (s starts lens : List ℕ) (count at : ℕ) (d out : List ℕ) (next i : ℕ) : Type 0 where
-  pub turn : i ≤ count
-  pub places : Places s starts lens count
-  pub room : at + sum_to lens count ≤ length d
-  pub put : Put d at (joined (records_at s starts lens i)) out
+pub record Records (s : List ℕ) (p : Places) (at : ℕ) (d out : List ℕ) (next i : ℕ) : Type 0 where
+  pub turn : i ≤ p.count
+  pub inside : PlacesInside s p
+  pub room : at + sum_to p.lens p.count ≤ length d
+  pub put : Put d at (joined (records_at s p.starts p.lens i)) out
   pub same : length out ≡ length d
-  pub to : next ≡ at + sum_to lens i
+  pub to : next ≡ at + sum_to p.lens i
 
-module _ (s starts lens : List ℕ) (count at : ℕ) (d : List ℕ) where
-  pub records_start : (next : ℕ) → next ≡ at → Places s starts lens count → at + sum_to lens count ≤ length d → Records s starts lens count at d d next 0
+module _ (s : List ℕ) (p : Places) (at : ℕ) (d : List ℕ) where
+  pub records_start : (next : ℕ) → next ≡ at → PlacesInside s p → at + sum_to p.lens p.count ≤ length d → Records s p at d d next 0
   unfolding records_at joined
-  records_start next first p room =
+  records_start next first k room =
       record {
         turn = omega arith;
-        places = p;
+        inside = k;
         room = room;
         put = put_none d at (omega arith);
         same = refl;
-        to = omega (arith, sum_none lens);
+        to = omega (arith, sum_none p.lens);
       }
 
-  module _ (out : List ℕ) (next i : ℕ) (o : Records s starts lens count at d out next i) where
+  module _ (out : List ℕ) (next i : ℕ) (o : Records s p at d out next i) where
     -- the next record is not past the buffer, and within the bytes
-    pub records_fit : i < count → (next + get_or lens i 0 ≤ length d) × (get_or starts i 0 + get_or lens i 0 ≤ length s)
+    pub records_fit : i < p.count → (next + get_or p.lens i 0 ≤ length d) × (get_or p.starts i 0 + get_or p.lens i 0 ≤ length s)
     records_fit h =
-        let rise = sum_rise lens (i + 1) count (omega arith) in
-        let more = sum_more lens i in
-        (omega arith, o.places.inside i h)
+        let rise = sum_rise p.lens (i + 1) p.count (omega arith) in
+        let more = sum_more p.lens i in
+        (omega arith, o.inside.inside i h)
 
-    pub records_next : i < count → (r a : List ℕ) (to : ℕ) → r ≡ part_at s (get_or starts i 0) (get_or lens i 0) → a ≡ placed out to r → to ≡ next
-        → (after : ℕ) → after ≡ next + get_or lens i 0 → Records s starts lens count at d a after (i + 1)
+    pub records_next : i < p.count → (r a : List ℕ) (to : ℕ) → r ≡ part_at s (get_or p.starts i 0) (get_or p.lens i 0) → a ≡ placed out to r → to ≡ next
+        → (after : ℕ) → after ≡ next + get_or p.lens i 0 → Records s p at d a after (i + 1)
     records_next h r a to is as-placed there after more =
-        let rs = records_at s starts lens i in
-        let size = joined_size s starts lens count o.places i (omega arith) in
-        let long : length r ≡ get_or lens i 0 = ap length is ∙ part_length s (get_or starts i 0) (get_or lens i 0) (o.places.inside i h) in
+        let rs = records_at s p.starts p.lens i in
+        let size = joined_size s p o.inside i (omega arith) in
+        let long : length r ≡ get_or p.lens i 0 = ap length is ∙ part_length s (get_or p.starts i 0) (get_or p.lens i 0) (o.inside.inside i h) in
         let room = (records_fit h).0 in
-        let p = put_placed out to r a (omega (arith, o.same)) as-placed in
-        let q = put_more d at (joined rs) out o.put to (omega (arith, o.to)) r a p in
+        let p1 = put_placed out to r a (omega (arith, o.same)) as-placed in
+        let q = put_more d at (joined rs) out o.put to (omega (arith, o.to)) r a p1 in
         record {
           turn = omega arith;
-          places = o.places;
+          inside = o.inside;
           room = o.room;
           put = subst (λ (l : List ℕ). Put d at l a)
               (ap (λ (l : List ℕ). joined rs ++ l) is
-              ∙ sym (ap joined (records_more s starts lens i) ∙ joined_more rs (part_at s (get_or starts i 0) (get_or lens i 0)))) q;
+              ∙ sym (ap joined (records_more s p.starts p.lens i) ∙ joined_more rs (part_at s (get_or p.starts i 0) (get_or p.lens i 0)))) q;
           same = q.kept;
-          to = omega (arith, sum_more lens i, o.to);
+          to = omega (arith, sum_more p.lens i, o.to);
         }
 
-    pub records_end : count ≤ i → Put d at (joined (records_at s starts lens count)) out
+    pub records_end : p.count ≤ i → Put d at (joined (records_of_places s p)) out
     records_end h =
-        let last : i ≡ count = omega (arith, o.turn) in
-        subst (λ (k : ℕ). Put d at (joined (records_at s starts lens k)) out) last o.put
+        let last : i ≡ p.count = omega (arith, o.turn) in
+        subst (λ (k : ℕ). Put d at (joined (records_at s p.starts p.lens k)) out) last o.put
 
 -- one offset more at the end
 offsets_behind : (first : ℕ) (rs : List (List ℕ)) (r : List ℕ)
@@ -171,24 +171,24 @@ offsets_behind first (q ∷ rs) r =
     ∙ sym (append_assoc (offset first) (offsets_from (first + length q) rs) (offset (first + length q + length (joined rs))))
     ∙ ap (λ (n : ℕ). offset first ++ offsets_from (first + length q) rs ++ offset n) sum
 
-module _ (s starts lens : List ℕ) (n : ℕ) (p : Places s starts lens n) where
-  offsets_same : (first i : ℕ) → i ≤ n → offsets_from first (records_at s starts lens i) ≡ offsets_to first lens i
+module _ (s : List ℕ) (p : Places) (k : PlacesInside s p) where
+  offsets_same : (first i : ℕ) → i ≤ p.count → offsets_from first (records_at s p.starts p.lens i) ≡ offsets_to first p.lens i
   unfolding offsets_from offsets_to records_at
   offsets_same first zero h = refl
   offsets_same first (suc i) h =
-      offsets_behind first (records_at s starts lens i) (part_at s (get_or starts i 0) (get_or lens i 0))
-      ∙ ap₂ (λ (l : List ℕ) (k : ℕ). l ++ offset (first + k)) (offsets_same first i (omega arith)) (joined_size s starts lens n p i (omega arith))
+      offsets_behind first (records_at s p.starts p.lens i) (part_at s (get_or p.starts i 0) (get_or p.lens i 0))
+      ∙ ap₂ (λ (l : List ℕ) (m : ℕ). l ++ offset (first + m)) (offsets_same first i (omega arith)) (joined_size s p k i (omega arith))
 
   -- what both loops write is the list
-  pub list_same : offsets_to (4 * n) lens n ++ joined (records_at s starts lens n) ≡ list_bytes (records_at s starts lens n)
+  pub list_same : offsets_to (4 * p.count) p.lens p.count ++ joined (records_of_places s p) ≡ list_bytes (records_of_places s p)
   list_same =
-      let rs = records_at s starts lens n in
+      let rs = records_of_places s p in
       ap (λ (l : List ℕ). l ++ joined rs)
-      (sym (ap (λ (k : ℕ). offsets_from (4 * k) rs) (records_length s starts lens n) ∙ offsets_same (4 * n) n (omega arith)))
+      (sym (ap (λ (m : ℕ). offsets_from (4 * m) rs) (records_length s p.starts p.lens p.count) ∙ offsets_same (4 * p.count) p.count (omega arith)))
 
   -- and its size is what was counted
-  pub list_size : length (list_bytes (records_at s starts lens n)) ≡ 4 * n + sum_to lens n
+  pub list_size : length (list_bytes (records_of_places s p)) ≡ 4 * p.count + sum_to p.lens p.count
   list_size =
-      let rs = records_at s starts lens n in
+      let rs = records_of_places s p in
       sym (ap length list_same)
-      ∙ omega (arith, length-append (offsets_to (4 * n) lens n) (joined rs), offsets_size (4 * n) lens n, joined_size s starts lens n p n (omega arith))
+      ∙ omega (arith, length-append (offsets_to (4 * p.count) p.lens p.count) (joined rs), offsets_size (4 * p.count) p.lens p.count, joined_size s p k p.count (omega arith))

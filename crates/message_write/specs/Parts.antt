@@ -1,12 +1,7 @@
 -- What the steps of putting parts into a buffer say: bytes at a place, the size of the whole, and the offsets of records.
 use Rattle.std.specs.Prelude.{ℕ, zero, suc, ◌+◌, ◌≤◌, ◌≡◌, cond, List, [], ◌++◌, ltb, length, get_or, take, drop}
-use Rattle.refusal.specs.declared.Refusal.TheVariants.{LongMessage, ShortBuffer}
-use Rattle.refusal.specs.declared.Checked.{Checked}
-use Rattle.refusal.specs.declared.Checked.TheVariants.{Accepted, Refused}
-use Rattle.refusal.specs.declared.Wrote.{Wrote}
-use Rattle.refusal.specs.Buffer.{Writes}
+use Rattle.refusal.specs.Outcome.{Outcome, given, refused}
 use Rattle.message.specs.Encode.{offset}
-use Rattle.message_write.specs.Write.{fitting}
 
 -- the bytes stand in the buffer from a place on, and all else is as it was
 pub record Put (before : List ℕ) (at : ℕ) (bytes after : List ℕ) : Type 0 where
@@ -14,13 +9,9 @@ pub record Put (before : List ℕ) (at : ℕ) (bytes after : List ℕ) : Type 0 
   pub kept : length after ≡ length before
   pub value : after ≡ take at before ++ bytes ++ drop (at + length bytes) before
 
--- two parts written one behind the other
-pub record TwoWritten (head rest : List ℕ) (answer : Wrote) (before after : List ℕ) : Type 0 where
-  pub writes : Writes (fitting (head ++ rest) (length before)) answer before after
-
--- 2 for more than 1,280 bytes, then 13 for more than there is room for
-abbrev pub size_why : ℕ → ℕ → Checked
-size_why size room = cond (ltb 1280 size) (Refused LongMessage) (cond (ltb room size) (Refused ShortBuffer) Accepted)
+-- a size that fits a message and the buffer, else 2 for more than 1,280 bytes, then 13 for more than there is room for
+abbrev pub sized : ℕ → ℕ → Outcome ℕ
+sized size room = cond (ltb 1280 size) (refused 2) (cond (ltb room size) (refused 13) (given size))
 
 -- the sum of the first n lengths
 unfoldable pub sum_to : List ℕ → ℕ → ℕ

@@ -1,15 +1,12 @@
 -- Bytes put into a buffer: whether they have room, and what the buffer then holds. Assumes nothing.
 use Prim.Native.Nat.{ℕ, ◌+◌, ◌-◌, ◌<◌, ◌≤◌}
 use native.Mathlib.Omega.{arith}
-use mathlib.Core.Path.{◌≡◌, refl, sym, ap, ap₂, ◌∙◌}
-use mathlib.Core.Bool.{Bool, true, false, cond, ◌&&◌, false≢true}
-use mathlib.Core.List.{List, ◌++◌, append-nil}
-use lib.Dec.{leb}
-use lib.ListN.{length, get_or, set, take, drop, drop_of_length-le}
-use lib.Seq.{paste, paste-suc, take_all, take-length}
-use native.Mathlib.Nat.{zero-add}
-use native.Mathlib.Numerals.{add-one}
-use borrow.Author.Tests.{le-leb, lt-leb, leb-true}
+use mathlib.Core.Path.{◌≡◌, sym, ap, ◌∙◌}
+use mathlib.Core.Bool.{Bool, true, false, cond}
+use mathlib.Core.List.{List, ◌++◌}
+use lib.ListN.{length, take, drop}
+use lib.Seq.{paste, take-length}
+use borrow.Author.Tests.{le-leb, lt-leb}
 use Rattle.octets.specs.Buffer.{has_room, placed}
 
 module _ (d : List ℕ) (at : ℕ) (bytes : List ℕ) where
@@ -27,15 +24,6 @@ module _ (d : List ℕ) (at : ℕ) (bytes : List ℕ) where
       let m : at ≤ length d = omega arith in
       let n : length bytes ≤ length d - at = omega arith in
       simp (le-leb at (length d) m, le-leb (length bytes) (length d - at) n)
-
-  -- what has room ends within the buffer
-  pub room_ends : has_room d at bytes ≡ true → at + length bytes ≤ length d
-  room_ends e = go (leb at (length d)) refl (leb (length bytes) (length d - at)) refl e
-    where
-      go : (x : Bool) → leb at (length d) ≡ x → (y : Bool) → leb (length bytes) (length d - at) ≡ y → (x && y) ≡ true → at + length bytes ≤ length d
-      go true p true q h = omega (arith, leb-true at (length d) p, leb-true (length bytes) (length d - at) q)
-      go true p false q h = absurd (false≢true h)
-      go false p y q h = absurd (false≢true h)
 
   -- the buffer by the test for room
   placed_by : (t : Bool) → has_room d at bytes ≡ t → cond t (take at d ++ bytes ++ drop (at + length bytes) d) d ≡ placed d at bytes
@@ -55,20 +43,3 @@ module _ (d : List ℕ) (at : ℕ) (bytes : List ℕ) where
       ap (paste d at bytes) last
       ∙ ap (λ (l : List ℕ). take at d ++ l ++ drop (at + length bytes) d) (take-length bytes)
       ∙ placed_by true (fits h)
-
--- one step of a copy
-pub pasted_next : (d e s : List ℕ) (at j v : ℕ) → at + j < length e → j < length s → v ≡ get_or s j 0 → d ≡ paste e at s j
-    → set d (at + j) v ≡ paste e at s (j + 1)
-pasted_next d e s at j v l k is q =
-    ap₂ (λ (x : List ℕ) (w : ℕ). set x (at + j) w) q is
-    ∙ paste-suc e at s j 0 l k
-    ∙ ap (λ (n : ℕ). paste e at s n) (sym (add-one j))
-
--- one that fills an array from its front
-pub copied_next : (d e s : List ℕ) (j v : ℕ) → j < length e → j < length s → v ≡ get_or s j 0 → d ≡ paste e 0 s j → set d j v ≡ paste e 0 s (j + 1)
-copied_next d e s j v l k is q = ap (λ (n : ℕ). set d n v) (sym (zero-add j)) ∙ pasted_next d e s 0 j v (omega arith) k is q
-
--- at its end nothing of the first array is left
-pub copied_all : (e s : List ℕ) (j : ℕ) → length e ≤ j → length s ≤ j → paste e 0 s j ≡ s
-copied_all e s j h k =
-    ap₂ (λ (x y : List ℕ). x ++ y) (take_all j s k) (drop_of_length-le e {i = 0 + j} (omega arith)) ∙ append-nil s

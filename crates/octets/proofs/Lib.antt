@@ -2,8 +2,8 @@ pub mod Buffers
 pub mod Equal
 pub mod Numbers
 pub mod Order
+pub mod Made
 pub mod Pairs
 pub mod Parts
-pub mod Flags
 pub mod Tables
 pub mod Tests

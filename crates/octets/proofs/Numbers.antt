@@ -1,7 +1,7 @@
 -- Laws on lists of bytes and the numbers that they stand for, heaviest byte first (be) and lightest byte first (le).
 -- Each goes by recursion on the list; a number and its digits meet in `digits_lt`, `digits_div` and `digits_mod`. Assumes nothing.
 use Prim.Native.Nat.{ℕ, zero, suc, ◌+◌, ◌*◌, ◌/◌, ◌%◌, ◌^◌, ◌<◌}
-use native.Mathlib.Nat.{suc_inj, suc-ne-zero, pow-suc, pow-succ', mod-one, mod-lt, mod-eq_of_lt, one-le-pow}
+use native.Mathlib.Nat.{suc_inj, suc-ne-zero, pow-suc, pow-succ', mod-one, mod-lt, mod-eq_of_lt, one-le-pow, div-one, div-div-eq-div-mul, mod-mod}
 use native.Mathlib.Omega.{arith}
 use mathlib.Core.Path.{◌≡◌, refl, sym, ap, ap₂, ◌∙◌}
 use mathlib.Core.List.{List, [], ◌∷◌, ◌++◌, reverse, reverse_aux}
@@ -9,6 +9,7 @@ use lib.Dec.{lit<}
 use lib.Arith.{digits_lt, digits_div, digits_mod, mod-mul}
 use lib.Pow.{pow-add}
 use lib.ListN.{length, get_or, take, drop, replicate, length-append}
+use Rattle.std.specs.Int.{bytes_high_first}
 use Rattle.octets.specs.Bytes.{Bytes, be, le, be_bytes, le_bytes}
 
 -- a list is bytes if each place holds less than 256
@@ -122,6 +123,30 @@ be_be_bytes (suc k) n =
     ∙ ap (λ (m : ℕ). n % m) (sym (pow-suc 256 k))
 
 -- a number below 256 ^ k comes back from its last k bytes
+-- the last bytes of a number begin with the heaviest
+be_bytes_first : (k n : ℕ) → be_bytes (suc k) n ≡ n / 256 ^ k % 256 ∷ be_bytes k n
+unfolding be_bytes
+be_bytes_first zero n = ap (λ (m : ℕ). m % 256 ∷ []) (sym (div-one n))
+be_bytes_first (suc k) n =
+    let more : 256 * 256 ^ k ≡ 256 ^ suc k = omega (arith, pow-suc 256 k) in
+    ap (λ (l : List ℕ). l ++ (n % 256 ∷ [])) (be_bytes_first k (n / 256))
+    ∙ ap (λ (m : ℕ). m % 256 ∷ be_bytes k (n / 256) ++ (n % 256 ∷ [])) (div-div-eq-div-mul n 256 (256 ^ k) ∙ ap (λ (m : ℕ). n / m) more)
+
+-- they are the bytes of std
+pub be_bytes_std : (k n : ℕ) → bytes_high_first k n ≡ be_bytes k n
+unfolding be_bytes
+be_bytes_std zero n = refl
+be_bytes_std (suc zero) n = refl
+be_bytes_std (suc (suc k)) n =
+    ap (λ (l : List ℕ). n / 256 ^ suc k % 256 ∷ l) (be_bytes_std (suc k) n) ∙ sym (be_bytes_first (suc k) n)
+
+-- of a number modulo 256 ^ k they are the same
+pub be_bytes_mod : (k n : ℕ) → be_bytes k (n % 256 ^ k) ≡ be_bytes k n
+be_bytes_mod k n =
+    be_inj (be_bytes k (n % 256 ^ k)) (be_bytes k n) (be_bytes_length k (n % 256 ^ k) ∙ sym (be_bytes_length k n))
+    (be_bytes_bytes k (n % 256 ^ k)) (be_bytes_bytes k n)
+    (be_be_bytes k (n % 256 ^ k) ∙ mod-mod n (256 ^ k) ∙ sym (be_be_bytes k n))
+
 pub be_be_bytes_below : (k n : ℕ) → n < 256 ^ k → be (be_bytes k n) ≡ n
 be_be_bytes_below k n h = be_be_bytes k n ∙ mod-eq_of_lt h
 

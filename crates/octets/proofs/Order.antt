@@ -9,7 +9,7 @@ use mathlib.Core.List.{List, [], ◌∷◌}
 use lib.Dec.{leb, ltb, eqb}
 use lib.Arith.{digits_lt, lt_of_le-ne}
 use lib.ListN.{length}
-use borrow.Author.Tests.{le-leb, lt-leb, leb-true, leb-false, ltb-true, ltb-false, eqb-true, eqb-false}
+use borrow.Author.Tests.{le-leb, lt-leb, leb-true, leb-false, ltb-true, ltb-false, eqb-true, eqb-false, eq-eqb, ne_eqb}
 use Rattle.octets.specs.Bytes.{Bytes, be}
 use Rattle.octets.specs.Order.{lex_leb}
 use Rattle.octets.proofs.Numbers.{be_lt}
@@ -70,3 +70,19 @@ lex_be [] [] l h k = sym order_end
 lex_be [] (y ∷ ys) l h k = absurd (suc-ne-zero (length ys) (sym l))
 lex_be (x ∷ xs) [] l h k = absurd (suc-ne-zero (length xs) l)
 lex_be (x ∷ xs) (y ∷ ys) l h k = lex_step x y xs ys (suc_inj l) h.1 k.1 (lex_be xs ys (suc_inj l) h.1 k.1)
+
+-- lists that begin with different bytes are in the order of these
+pub lex_differ : (x y : ℕ) (xs ys xt yt : List ℕ) → xs ≡ x ∷ xt → ys ≡ y ∷ yt → (x ≡ y → ⊥) → lex_leb xs ys ≡ ltb x y
+unfolding lex_leb
+lex_differ x y xs ys xt yt p q n = rw (p, q, ne_eqb x y n)
+
+-- those that begin with the same byte are in the order of what follows it
+pub lex_equal : (x y : ℕ) (xs ys xt yt : List ℕ) → xs ≡ x ∷ xt → ys ≡ y ∷ yt → x ≡ y → lex_leb xs ys ≡ lex_leb xt yt
+unfolding lex_leb
+lex_equal x y xs ys xt yt p q e = rw (p, q, eq-eqb x y e)
+
+-- a list of no bytes is at most any
+pub lex_empty : (xs ys : List ℕ) → length xs ≡ 0 → lex_leb xs ys ≡ true
+unfolding lex_leb
+lex_empty [] ys e = refl
+lex_empty (x ∷ xs) ys e = absurd (suc-ne-zero (length xs) e)

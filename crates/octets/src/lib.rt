@@ -1,52 +1,36 @@
 // Bytes: the numbers that lists of them stand for, their order, and the small functions on them that several crates use.
 #![tactic(auto)]
 
-ghost use Rattle.std.specs.Prelude.{◌+◌, ◌<◌, ◌≡◌, reverse, length, get_or};
+ghost use Rattle.std.specs.Prelude.{◌<◌, ◌≡◌, reverse, length, drop};
 ghost use Rattle.octets.specs.Bytes.{le};
 ghost use Rattle.octets.specs.Equal.{same_bytes};
 ghost use Rattle.octets.specs.Parts.{bytes_at};
 ghost use Rattle.octets.specs.Buffer.{has_room, placed};
 
-// A byte as a larger number.
-pub fn wide(x: u8) -> usize
-    ensures { (result ≡ x) × (result < 256) }
-{
-    x as usize
-}
-
 // The number of four bytes, lightest first.
+// Kept: docs/DECISIONS.md names it, and three edits are about it.
 pub fn le4(four: [u8; 4]) -> usize
     ensures { (result ≡ le four) × (result < 4294967296) }
 {
-    wide(four[0]) + 256 * (wide(four[1]) + 256 * (wide(four[2]) + 256 * wide(four[3])))
+    u32::from_le_bytes(four) as usize
 }
 
 // The bytes in the other order.
-pub fn reversed(bytes: [u8; 32]) -> [u8; 32]
-    ensures { result ≡ reverse bytes }
+pub fn reversed<const N: usize>(bytes: [u8; N]) -> [u8; N]
+    ensures { result ≡ reverse bytes.entry }
 {
-    let mut out = [0u8; 32];
-    let mut from = 32usize;
-    for i in 0..32 {
-        from -= 1;
-        out[i] = bytes[from];
-    }
+    let mut out = bytes;
+    out.reverse();
     out
 }
 
 // Whether two byte strings are equal.
+// Kept: docs/DECISIONS.md names it, and edits first-byte-compared and shorter-is-same are about it.
+#[tactic(auto, using(crate::proofs::Equal::same_pointwise))]
 pub fn same(a: &[u8], b: &[u8]) -> bool
     ensures { result ≡ same_bytes a.now b.now }
 {
-    if a.len() != b.len() {
-        return false;
-    }
-    for i in 0..a.len() {
-        if a[i] != b[i] {
-            return false;
-        }
-    }
-    true
+    a == b
 }
 
 // Puts bytes into a buffer from index `at` on, and answers true; or answers false and leaves the buffer as it is where they have no
@@ -61,9 +45,7 @@ pub fn put(bytes: &[u8], out: &mut [u8], at: usize) -> bool
     if out.len() - at < bytes.len() {
         return false;
     }
-    for i in 0..bytes.len() {
-        out[at + i] = bytes[i];
-    }
+    out[at..at + bytes.len()].copy_from_slice(bytes);
     true
 }
 
@@ -71,47 +53,32 @@ pub fn put(bytes: &[u8], out: &mut [u8], at: usize) -> bool
 pub fn fill(bytes: &[u8], from: usize, out: &mut [u8])
     ensures { out.new ≡ bytes_at (length out.old) from bytes.now }
 {
-    for i in 0..out.len() {
-        out[i] = byte(bytes, from, i);
+    let rest = behind(bytes, from);
+    let n = rest.len().min(out.len());
+    let (front, back) = out.split_at_mut(n);
+    front.copy_from_slice(&rest[..n]);
+    back.fill(0);
+}
+
+// The bytes from an index on; none past the end.
+fn behind(bytes: &[u8], from: usize) -> &[u8]
+    ensures { result.now ≡ drop from bytes.now }
+{
+    if from < bytes.len() {
+        &bytes[from..]
+    } else {
+        &[]
     }
 }
 
-// The byte at `from + i`, and 0 past the end. No sum is made before it is known to be inside.
-fn byte(bytes: &[u8], from: usize, i: usize) -> u8
-    ensures { result ≡ get_or bytes.now (from + i) 0 }
+// N bytes from index `from` on; those past the end are 0.
+pub fn part<const N: usize>(bytes: &[u8], from: usize) -> [u8; N]
+    ensures { result ≡ bytes_at N from bytes.now }
 {
-    if bytes.len() <= from {
-        return 0;
+    if let Some(whole) = behind(bytes, from).first_chunk::<N>() {
+        return *whole;
     }
-    if bytes.len() - from <= i {
-        return 0;
-    }
-    bytes[from + i]
-}
-
-// Four bytes from index `from` on; those past the end are 0.
-pub fn part4(bytes: &[u8], from: usize) -> [u8; 4]
-    ensures { result ≡ bytes_at 4 from bytes.now }
-{
-    let mut four = [0u8; 4];
-    fill(bytes, from, &mut four);
-    four
-}
-
-// Nine bytes from index `from` on; those past the end are 0.
-pub fn part9(bytes: &[u8], from: usize) -> [u8; 9]
-    ensures { result ≡ bytes_at 9 from bytes.now }
-{
-    let mut nine = [0u8; 9];
-    fill(bytes, from, &mut nine);
-    nine
-}
-
-// 32 bytes from index `from` on; those past the end are 0.
-pub fn part32(bytes: &[u8], from: usize) -> [u8; 32]
-    ensures { result ≡ bytes_at 32 from bytes.now }
-{
-    let mut part = [0u8; 32];
+    let mut part = [0u8; N];
     fill(bytes, from, &mut part);
     part
 }

@@ -1,14 +1,7 @@
 -- What a call that writes into a buffer lent to it answers, and what it leaves in the buffer.
-use Rattle.std.specs.Prelude.{ℕ, ◌≡◌, List, ◌++◌, length, drop}
-use Rattle.refusal.specs.Says.{says_of}
-use Rattle.refusal.specs.Outcome.{Outcome, given, refusal}
-use Rattle.refusal.specs.declared.Wrote.{Wrote}
-use Rattle.refusal.specs.declared.Wrote.TheVariants.{Bytes, Refused}
-
--- what an answer stands for: how many bytes were written, or what the refusal says
-abbrev pub wrote_of : Wrote → Outcome ℕ
-wrote_of (Bytes n) = given n
-wrote_of (Refused why) = refusal (says_of why)
+use Rattle.std.specs.Prelude.{ℕ, ◌≡◌, List, ◌++◌, length, drop, Result}
+use Rattle.refusal.specs.Outcome.{Outcome, given, refusal, outcome_of}
+use Rattle.refusal.specs.declared.Refusal.{Refusal}
 
 -- how many bytes, or the refusal
 abbrev pub counted : Outcome (List ℕ) → Outcome ℕ
@@ -20,7 +13,7 @@ abbrev pub written : Outcome (List ℕ) → List ℕ → List ℕ
 written (given bytes) out = bytes ++ drop (length bytes) out
 written (refusal says) out = out
 
--- an answer and a buffer, before and after a call that is to write these bytes
-pub record Writes (bytes : Outcome (List ℕ)) (answer : Wrote) (before after : List ℕ) : Type 0 where
-  pub answered : wrote_of answer ≡ counted bytes
+-- an answer, how many bytes were written or a refusal, and a buffer, before and after a call that is to write these bytes
+pub record Writes (bytes : Outcome (List ℕ)) (answer : Result ℕ Refusal) (before after : List ℕ) : Type 0 where
+  pub answered : outcome_of answer ≡ counted bytes
   pub buffer : after ≡ written bytes before

@@ -5,7 +5,7 @@ ghost use Rattle.std.specs.Prelude.{◌≡◌};
 ghost use Rattle.refusal.specs.Says.{number_of};
 
 // Why a call is refused, in the order of the numbers: 0 to 17, 20 to 25, 29.
-#[derive(Clone, Copy)]
+#[derive(Clone, Copy, PartialEq, Eq)]
 pub enum Refusal {
     // The index or the routing table handed in breaks its rules.
     BadState,
@@ -59,49 +59,37 @@ pub enum Refusal {
     NoEntry,
 }
 
-// Whether an input was accepted, beside whatever an accepted one gives.
-#[derive(Clone, Copy)]
-pub enum Checked {
-    Accepted,
-    Refused(Refusal),
-}
-
-// How many bytes a call wrote at the start of a buffer lent to it, or why none.
-#[derive(Clone, Copy)]
-pub enum Wrote {
-    Bytes(usize),
-    Refused(Refusal),
-}
-
 // The refusal's number in the table.
-pub fn number(why: Refusal) -> u8
-    ensures { result ≡ number_of why }
-{
-    match why {
-        Refusal::BadState => 0,
-        Refusal::EmptyMessage => 1,
-        Refusal::LongMessage => 2,
-        Refusal::MessageType => 3,
-        Refusal::Layout => 4,
-        Refusal::TooManyItems => 5,
-        Refusal::ItemRule => 6,
-        Refusal::KeyLength => 7,
-        Refusal::KeySelector => 8,
-        Refusal::Content => 9,
-        Refusal::BeyondRadius => 10,
-        Refusal::AlreadyHeld => 11,
-        Refusal::NotHeld => 12,
-        Refusal::ShortBuffer => 13,
-        Refusal::BadSnapshot { line: _ } => 14,
-        Refusal::NotHex => 15,
-        Refusal::ContentEndsEarly => 16,
-        Refusal::BeyondNewest => 17,
-        Refusal::OwnId => 20,
-        Refusal::TableFull => 21,
-        Refusal::ReplacementsFull => 22,
-        Refusal::Unusable => 23,
-        Refusal::InputLength => 24,
-        Refusal::NoSuchPlace => 25,
-        Refusal::NoEntry => 29,
+impl From<Refusal> for u8 {
+    ghost from_gives = { λ why n. n ≡ number_of why };
+
+    fn from(why: Refusal) -> u8 {
+        match why {
+            Refusal::BadState => 0,
+            Refusal::EmptyMessage => 1,
+            Refusal::LongMessage => 2,
+            Refusal::MessageType => 3,
+            Refusal::Layout => 4,
+            Refusal::TooManyItems => 5,
+            Refusal::ItemRule => 6,
+            Refusal::KeyLength => 7,
+            Refusal::KeySelector => 8,
+            Refusal::Content => 9,
+            Refusal::BeyondRadius => 10,
+            Refusal::AlreadyHeld => 11,
+            Refusal::NotHeld => 12,
+            Refusal::ShortBuffer => 13,
+            Refusal::BadSnapshot { line: _ } => 14,
+            Refusal::NotHex => 15,
+            Refusal::ContentEndsEarly => 16,
+            Refusal::BeyondNewest => 17,
+            Refusal::OwnId => 20,
+            Refusal::TableFull => 21,
+            Refusal::ReplacementsFull => 22,
+            Refusal::Unusable => 23,
+            Refusal::InputLength => 24,
+            Refusal::NoSuchPlace => 25,
+            Refusal::NoEntry => 29,
+        }
     }
 }

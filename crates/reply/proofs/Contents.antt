@@ -10,15 +10,16 @@ use mathlib.Core.Option.{Option, some}
 use lib.Dec.{leb, lit≤}
 use lib.ListN.{length, take}
 use borrow.Author.Tests.{le-leb, lt-leb, lt-ltb, le-ltb}
-use Rattle.refusal.specs.Outcome.{given, refused, or_zeros}
+use Rattle.refusal.specs.Outcome.{given, refused}
 use Rattle.refusal.proofs.Outcomes.{given_not}
 use Rattle.refusal.specs.Buffer.{Writes}
-use Rattle.refusal.specs.declared.Wrote.{Wrote}
+use Rattle.refusal.specs.declared.Refusal.{Refusal}
+use Rattle.std.specs.Prelude.{Option as Maybe, Some, None, Result}
 use Rattle.octets.specs.Bytes.{le}
 use Rattle.octets.specs.Equal.{all_different}
 use Rattle.octets.specs.Parts.{bytes_at}
 use Rattle.octets.proofs.Parts.{bytes_at_all}
-use Rattle.content_key.specs.Key.{key_of, key_id, content_id_of}
+use Rattle.content_key.specs.Key.{key_of}
 use Rattle.content_key.proofs.Keys.{key_length}
 use Rattle.message.specs.Values.{found_content}
 use Rattle.message.specs.Encode.{joined}
@@ -28,8 +29,6 @@ use Rattle.message_write.specs.Write.{bytes_for_lent}
 use Rattle.key_index.specs.View as keys
 use Rattle.key_index.specs.Search.{place_of}
 use Rattle.key_index.specs.Calls.{is_held}
-use Rattle.key_index.specs.declared.Place.{Place}
-use Rattle.key_index.specs.declared.Place.TheVariants.{At, Nothing}
 use Rattle.key_index.proofs.Places.{at_held, nothing_held}
 use Rattle.replies.specs.Groups.{first_group}
 use Rattle.replies.specs.Room.{room, bytes_with}
@@ -42,13 +41,13 @@ use Rattle.replies.proofs.Content.{held_refused}
 use Rattle.replies.proofs.Replies.{no_connection_lem}
 use Rattle.reply.specs.Answer.{size_of, Replies}
 use Rattle.reply.specs.Ready.{First, Fair, Single, one_of}
-use Rattle.reply.specs.declared.ReplyAnswer.{ReplyAnswer}
+use Rattle.reply.specs.declared.Messages.{Messages}
 use Rattle.reply.specs.declared.groups.Group.{Group}
 use Rattle.reply.proofs.Taking.{Of}
 use Rattle.reply.proofs.Answers.{one_replies}
 
 -- a message whose records are lent
-pub content_replies : {before after : List ℕ} {w : Wrote} {r : ReplyAnswer} (connection content bytes starts lens : List ℕ) (rs : List (List ℕ))
+pub content_replies : {before after : List ℕ} {w : Result ℕ Refusal} {r : Result Messages Refusal} (connection content bytes starts lens : List ℕ) (rs : List (List ℕ))
     → lent bytes starts lens ≡ some rs
     → rules_of (found_content connection rs content) ≡ given (found_content connection rs content) → size_of (found_content connection rs content) ≤ 1280
     → Writes (bytes_for_lent (λ (qs : List (List ℕ)). found_content connection qs content) (lent bytes starts lens) (length before)) w before after
@@ -148,18 +147,17 @@ nine_bytes key is = by (ℕ_discrete (length key) 9)
     by (yes h) = h
     by (no h) = given_not (sym is ∙ key_length key h)
 
--- whether a key is held, by where it is found
-module _ (held : keys.View) (key nine : List ℕ) (is : key_of key ≡ given key) (read : nine ≡ bytes_at 9 0 key) (p : Place)
-    (found : p ≡ place_of nine held.keys) where
-  there : place_of key held.keys ≡ p
-  there = ap (λ (k : List ℕ). place_of k held.keys) (sym (read ∙ bytes_at_all 9 key (nine_bytes key is))) ∙ sym found
+-- and these are the key
+pub nine_is : (key nine : List ℕ) → key_of key ≡ given key → nine ≡ bytes_at 9 0 key → nine ≡ key
+nine_is key nine is read = read ∙ bytes_at_all 9 key (nine_bytes key is)
 
-  pub is_held_lem : {i : ℕ} → p ≡ At i → is_held key held ≡ true
+-- whether it is held, by where it is found
+module _ (held : keys.View) (key nine : List ℕ) (same : nine ≡ key) (p : Maybe ℕ) (found : p ≡ place_of nine held.keys) where
+  there : place_of key held.keys ≡ p
+  there = ap (λ (k : List ℕ). place_of k held.keys) (sym same) ∙ sym found
+
+  pub is_held_lem : {i : ℕ} → p ≡ Some i → is_held key held ≡ true
   is_held_lem {i} e = at_held key held.keys i (there ∙ e)
 
-  pub not_held : p ≡ Nothing → is_held key held ≡ false
+  pub not_held : p ≡ None → is_held key held ≡ false
   not_held e = nothing_held key held.keys (there ∙ e)
-
--- the id of a key
-pub id_is : (key id : List ℕ) → key_of key ≡ given key → id ≡ or_zeros 32 (content_id_of key) → id ≡ key_id key
-id_is key id e is = is ∙ rw e

@@ -12,7 +12,8 @@ use lib.Seq.{length-take-le}
 use borrow.Author.Tests.{leb-true}
 use Rattle.octets.proofs.Tests.{both}
 use Rattle.message.specs.Reading.{part_at}
-use Rattle.message_write.specs.Lent.{within, lent}
+use Rattle.message_rules.specs.Good.{within}
+use Rattle.message_write.specs.Lent.{lent}
 use Rattle.message_write.proofs.Loans.{lent_more}
 use Rattle.reply.specs.Ready.{length_of}
 

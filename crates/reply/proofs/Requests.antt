@@ -6,7 +6,9 @@ use mathlib.Core.Bool.{Bool, true, false, cond, ◌&&◌, ◌||◌}
 use mathlib.Core.List.{List, [], ◌∷◌}
 use lib.Dec.{eqb, leb}
 use lib.ListN.{length, get_or}
-use borrow.Author.Tests.{eq-eqb, ne_eqb, lt-ltb, le-ltb}
+use borrow.Author.Tests.{lt-ltb, le-ltb}
+use Rattle.std.specs.Prelude.{Option, Some, None, Result, Ok}
+use Rattle.refusal.specs.declared.Refusal.{Refusal}
 use Rattle.refusal.specs.Outcome.{Outcome, given, refusal, refused, map_outcome}
 use Rattle.refusal.proofs.Outcomes.{given_not}
 use Rattle.octets.specs.Equal.{same_bytes}
@@ -15,10 +17,10 @@ use Rattle.content_key.specs.Key.{selector_of, key_of}
 use Rattle.message.specs.Values.{Message, ping, pong, find_node, found_nodes, find_content, found_content, offer, accept, store}
 use Rattle.message.specs.Rules.{rules_of}
 use Rattle.message.specs.Decode.{decode}
-use Rattle.message.specs.Reading.{part_at, values_of, ReadTo}
-use Rattle.message.specs.declared.Kind.{Kind}
-use Rattle.message.specs.declared.Kind.TheVariants.{FindContent}
+use Rattle.message.specs.Reading.{part_at, values_of, reading_of, ReadTo}
+use Rattle.message.specs.declared.Part.{Part}
 use Rattle.message.specs.declared.Reading.{Reading}
+use Rattle.message.specs.declared.Reading.TheVariants.{Ping, Pong, FindNode, FoundNodes, FindContent, FoundContent, Offer, Accept, Store}
 use Rattle.message.proofs.Messages.{accepted}
 use Rattle.key_index.specs.View as keys
 use Rattle.key_index.specs.Good as rules
@@ -26,37 +28,27 @@ use Rattle.routing_table.specs.View.{View}
 use Rattle.routing_table.specs.Good.{good}
 use Rattle.routing_table.specs.Survey.{survey_of}
 use Rattle.routing_table.specs.declared.Facts.{Facts}
-use Rattle.routing_table.proofs.Looked.{survey_good, survey_facts}
+use Rattle.routing_table.proofs.Looked.{survey_none, survey_good, survey_facts}
 use Rattle.replies.specs.Content.{content_reply}
-use Rattle.replies.specs.Reply.{request_of, Lent, reply_to_request, agree, reply_of}
 use Rattle.reply.specs.Listing.{listing}
+use Rattle.replies.specs.Reply.{request_of, Lent, reply_to, reply_to_request, agree, reply_of}
 
 -- whether index and table agree, by what the code asks
 module _ (limit : ℕ) (held : keys.View) (v : View) (i : Bool) (ins : i ≡ rules.good limit held) where
   pub agree_index : i ≡ false → (r : Bool) → r ≡ false → r ≡ agree limit held v
   agree_index e r q = q ∙ sym (ap (λ (t : Bool). t && good v && same_bytes v.own held.node) (sym ins ∙ e))
 
-  module _ (e : i ≡ true) (s : Facts) (is : s ≡ survey_of v held.node) where
-    known : agree limit held v ≡ (s.good && same_bytes v.own held.node)
-    known =
-        ap (λ (t : Bool). t && good v && same_bytes v.own held.node) (sym ins ∙ e)
-        ∙ ap (λ (t : Bool). t && same_bytes v.own held.node) (sym (survey_good v held.node s is))
+  module _ (e : i ≡ true) (s : Option Facts) (is : s ≡ survey_of v held.node) where
+    known : agree limit held v ≡ (good v && same_bytes v.own held.node)
+    known = ap (λ (t : Bool). t && good v && same_bytes v.own held.node) (sym ins ∙ e)
 
-    pub agree_table : s.good ≡ false → (r : Bool) → r ≡ false → r ≡ agree limit held v
-    agree_table g r q = q ∙ sym (known ∙ ap (λ (t : Bool). t && same_bytes v.own held.node) g)
+    pub agree_none : s ≡ None → (r : Bool) → r ≡ false → r ≡ agree limit held v
+    agree_none n r q = q ∙ sym (known ∙ ap (λ (t : Bool). t && same_bytes v.own held.node) (survey_none v held.node s is n))
 
-    pub agree_own : s.good ≡ true → (r : Bool) → r ≡ s.own → r ≡ agree limit held v
-    agree_own g r q =
-        q ∙ ap (λ (f : Facts). f.own) (survey_facts v held.node s is g)
-        ∙ sym (known ∙ ap (λ (t : Bool). t && same_bytes v.own held.node) g)
-
--- whether a type is one of the two, by a test for each
-pub first_type : (k : ℕ) → k ≡ 3 → (r : Bool) → r ≡ true → r ≡ (eqb k 3 || eqb k 5)
-first_type k e r q = rw (eq-eqb k 3 e) q
-
-pub last_type : (k : ℕ) → (k ≡ 3 → ⊥) → (r : Bool) → (r ≡ true → k ≡ 5) → (r ≡ false → k ≡ 5 → ⊥) → r ≡ (eqb k 3 || eqb k 5)
-last_type k n true f g = rw (ne_eqb k 3 n, eq-eqb k 5 (f refl))
-last_type k n false f g = rw (ne_eqb k 3 n, ne_eqb k 5 (g refl))
+    pub agree_own : (f : Facts) → s ≡ Some f → (r : Bool) → r ≡ f.own → r ≡ agree limit held v
+    agree_own f g r q =
+        q ∙ ap (λ (x : Facts). x.own) (survey_facts v held.node s is g)
+        ∙ sym (known ∙ ap (λ (t : Bool). t && same_bytes v.own held.node) (survey_good v held.node s is g))
 
 -- what bytes come to as a request
 empty_request : (m : List ℕ) → length m ≡ 0 → request_of m ≡ refused 1
@@ -122,10 +114,26 @@ listing_alone node cap bytes count v lent (given (accept key)) = refl
 listing_alone node cap bytes count v lent (given (store connection content)) = refl
 listing_alone node cap bytes count v lent (refusal says) = refl
 
--- what a message that was read draws, by its kind
-pub answered_as : (held : keys.View) (v : View) (lent : Lent) (s : List ℕ) (r : Reading) → ReadTo (decode s) s r → (k : Kind) → r.kind ≡ k
-    → reply_to_request held v lent (decode s) ≡ reply_to_request held v lent (values_of s r k)
-answered_as held v lent s r t k e = ap (reply_to_request held v lent) (sym t.value ∙ ap (values_of s r) e)
+-- what a message that was read draws
+module _ (held : keys.View) (v : View) (lent : Lent) (s : List ℕ) (r : Result Reading Refusal) (t : ReadTo (decode s) s r) where
+  pub answered_as : (a : Reading) → r ≡ Ok a → reply_to_request held v lent (decode s) ≡ reply_to held v lent (values_of s a)
+  answered_as a e = ap (reply_to_request held v lent) (sym t.value ∙ ap (reading_of s) e)
+
+  -- all but two are no requests
+  pub answered_other : (a : Reading) → r ≡ Ok a → ((part : Part) → a ≡ FindNode part → ⊥) → ((part : Part) → a ≡ FindContent part → ⊥)
+      → reply_to_request held v lent (decode s) ≡ refused 3
+  answered_other a e n k = answered_as a e ∙ other a n k
+    where
+      other : (a : Reading) → ((part : Part) → a ≡ FindNode part → ⊥) → ((part : Part) → a ≡ FindContent part → ⊥) → reply_to held v lent (values_of s a) ≡ refused 3
+      other (FindNode part) n k = absurd (n part refl)
+      other (FindContent part) n k = absurd (k part refl)
+      other (Ping radius) n k = refl
+      other (Pong radius) n k = refl
+      other (FoundNodes total records) n k = refl
+      other (FoundContent connection records content) n k = refl
+      other (Offer key) n k = refl
+      other (Accept key) n k = refl
+      other (Store connection content) n k = refl
 
 -- a FindContent that was read has a key
 decoded_rules : (s : List ℕ) (m : Message) → decode s ≡ given m → rules_of m ≡ given m
@@ -143,8 +151,9 @@ same_key key m n e = go (eqb (length key) 9) (leb (selector_of key) 1) e
     go true false w = given_not (sym w)
     go false u w = given_not (sym w)
 
-pub read_key : (s : List ℕ) (r : Reading) → ReadTo (decode s) s r → r.kind ≡ FindContent → (key : List ℕ) → key ≡ part_at s r.start r.len → key_of key ≡ given key
+pub read_key : (s : List ℕ) (r : Result Reading Refusal) → ReadTo (decode s) s r → (part : Part) → r ≡ Ok (FindContent part) → (key : List ℕ)
+    → key ≡ part_at s part.start part.len → key_of key ≡ given key
 unfolding rules_of
-read_key s r t e key is =
+read_key s r t part e key is =
     same_key key (find_content key) (find_content key)
-    (decoded_rules s (find_content key) (sym t.value ∙ ap (values_of s r) e ∙ ap (λ (k : List ℕ). given (find_content k)) (sym is)))
+    (decoded_rules s (find_content key) (sym t.value ∙ ap (reading_of s) e ∙ ap (λ (k : List ℕ). given (find_content k)) (sym is)))

@@ -11,7 +11,8 @@ use lib.Seq.{length-take-le, take_all, take-add, take_at, drop_at, drop-drop, se
 use borrow.Author.Tests.{le-leb, le-ltb, lt-ltb}
 use Rattle.refusal.specs.Outcome.{Outcome, given}
 use Rattle.refusal.specs.Buffer.{Writes, written}
-use Rattle.refusal.specs.declared.Wrote.{Wrote}
+use Rattle.std.specs.Prelude.{Result}
+use Rattle.refusal.specs.declared.Refusal.{Refusal}
 use Rattle.message.specs.Values.{Message, found_nodes}
 use Rattle.message.specs.Encode.{encode, joined}
 use Rattle.message.specs.Rules.{rules_of}
@@ -159,7 +160,7 @@ module _ (rs : List (List ℕ)) (fair : Fair rs) where
     abbrev part : List ℕ
     part = take (length out - at) (drop at out)
 
-    pub one_written : length (bytes_of (messages_of rs)) ≤ length before → (bytes starts lens after : List ℕ) (total k : ℕ) (r : Wrote)
+    pub one_written : length (bytes_of (messages_of rs)) ≤ length before → (bytes starts lens after : List ℕ) (total k : ℕ) (r : Result ℕ Refusal)
         → Lends bytes starts lens rs → total ≡ length all → k ≡ g.taken
         → Writes (bytes_for_lent (found_nodes total) (lent bytes (take k (drop from starts)) (take k (drop from lens))) (length part)) r part after
         → take at out ++ (after ++ drop (length out - at) (drop at out)) ≡ take at out ++ (encode (message group) ++ drop g.size (drop at out))

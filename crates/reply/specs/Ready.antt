@@ -1,9 +1,9 @@
 -- What the private parts of a reply ask of each other; no public contract uses it.
-use Rattle.std.specs.Prelude.{ℕ, ◌+◌, ◌*◌, ◌≤◌, ◌<◌, ◌≡◌, true, List, [], ◌∷◌, map, leb, length, get_or, replicate}
+use Rattle.std.specs.Prelude.{ℕ, ◌+◌, ◌*◌, ◌≤◌, ◌<◌, ◌≡◌, true, List, [], ◌∷◌, map, leb, length, get_or, replicate, Result, Ok, Err}
 use Rattle.std.proofs.Math.Option.{Option, some, none}
 use Rattle.refusal.specs.Buffer.{written}
 use Rattle.refusal.specs.Outcome.{given}
-use Rattle.refusal.specs.declared.Wrote.{Wrote}
+use Rattle.refusal.specs.declared.Refusal.{Refusal}
 use Rattle.octets.specs.Equal.{same_bytes, all_different}
 use Rattle.message.specs.Values.{Message}
 use Rattle.message.specs.Encode.{joined}
@@ -15,9 +15,8 @@ use Rattle.replies.specs.Nodes.{nodes_fit, numbered}
 use Rattle.replies.specs.Reply.{bytes_of}
 use Rattle.reply_records.specs.Records.{slots, slotted, Slots}
 use Rattle.reply_records.specs.declared.Records.{Records}
-use Rattle.reply.specs.Answer.{in33, size_of, refused_of}
-use Rattle.reply.specs.declared.Replied.TheVariants.{Messages}
-use Rattle.reply.specs.declared.ReplyAnswer.{ReplyAnswer}
+use Rattle.reply.specs.Answer.{in33, size_of}
+use Rattle.reply.specs.declared.Messages.{Messages}
 use Rattle.reply.specs.declared.groups.Group.{Group}
 use Rattle.reply.specs.declared.groups.Spread.{Spread}
 
@@ -87,6 +86,6 @@ pub record Single (connection content : List ℕ) : Type 0 where
   pub small : length content ≤ 1267
 
 -- the answer for one message
-abbrev pub one_of : Wrote → ReplyAnswer
-one_of (Wrote.Bytes size) = record { replied = Messages 1; lens = size ∷ replicate 32 0 }
-one_of (Wrote.Refused why) = refused_of why
+abbrev pub one_of : Result ℕ Refusal → Result Messages Refusal
+one_of (Ok size) = Ok (record { count = 1; lens = size ∷ replicate 32 0 })
+one_of (Err why) = Err why

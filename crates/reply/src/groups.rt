@@ -22,11 +22,11 @@ pub(crate) fn first(head: usize, lens: &[usize]) -> Group
     ensures { First head lens.now result }
 {
     let mut size = head;
-    for i in 0..lens.len() {
-        if 32 <= i || 1280 < size + (4 + lens[i]) {
+    for (i, len) in lens.iter().enumerate() {
+        if 32 <= i || 1280 < size + (4 + *len) {
             return Group { taken: i, size };
         }
-        size += 4 + lens[i];
+        size += 4 + *len;
     }
     Group {
         taken: lens.len(),
@@ -43,6 +43,7 @@ pub(crate) fn plan(lens: &[usize]) -> Spread
     let mut from = group.taken;
     let mut count = 1;
     let mut size = group.size;
+    // Kept: no plainer, a turn passes as many records as its message takes.
     while from < lens.len() {
         let next = first(6, &lens[from..]);
         from += next.taken;

@@ -7,11 +7,11 @@ ghost use Rattle.key_index.specs.View as keys;
 ghost use Rattle.routing_table.specs.View.{view};
 ghost use Rattle.routing_table.specs.Good.{good};
 ghost use Rattle.replies.specs.Reply.{agree, reply_of, reply_to_request, in_room};
-ghost use Rattle.reply.specs.Answer.{Replies, refused_of};
-ghost use Rattle.reply.specs.Listing.{listing};
+ghost use Rattle.reply.specs.Answer.{Replies};
+ghost use Rattle.reply.specs.Lending.{lending};
 
 use key_index::KeyIndex;
-use message::Kind;
+use message::Reading;
 use refusal::Refusal;
 use routing_table::RoutingTable;
 
@@ -22,127 +22,87 @@ mod nodes;
 // How many messages a reply has at most.
 pub const MESSAGES: usize = 33;
 
-// How many messages were written, or why none.
+// What the caller lends: our own record, content, and a connection id.
 #[derive(Clone, Copy)]
-pub enum Replied {
-    Messages(usize),
-    Refused(Refusal),
+pub struct Lent<'a> {
+    pub own: &'a [u8],
+    pub content: &'a [u8],
+    pub connection: [u8; 4],
 }
 
-// The answer, and the length of each message: zeros behind the last, and where the call is refused.
-#[derive(Clone, Copy)]
-pub struct ReplyAnswer {
-    pub replied: Replied,
+// How many messages were written, and the length of each: zeros behind the last.
+// Kept: fixed memory, and a list of fixed room is this array and this count.
+#[derive(Clone, Copy, PartialEq, Eq)]
+pub struct Messages {
+    pub count: usize,
     pub lens: [usize; MESSAGES],
 }
 
-// Writes the reply to any bytes, as a FindNode or a FindContent, at the start of the buffer, with our own record, content and a connection id
-// that the caller lends. Nothing is written where the call is refused.
+// Writes the reply to any bytes, as a FindNode or a FindContent, at the start of the buffer. Nothing is written where the call is refused.
 pub fn reply(
-    index: KeyIndex,
-    table: RoutingTable,
-    own: &[u8],
-    content: &[u8],
-    connection: [u8; 4],
+    index: &KeyIndex,
+    table: &RoutingTable,
+    lent: Lent,
     message: &[u8],
     out: &mut [u8],
-) -> ReplyAnswer
-    ensures { Replies (in_room (length out.old) (reply_of keys.key_limit (keys.view index) (view table) (record { own = own.entry.now; content = content.now; connection = connection }) message.now)) result out.old out.new }
+) -> Result<Messages, Refusal>
+    ensures { Replies (in_room (length out.old) (reply_of keys.key_limit (keys.view index.now) (view table.now) (lending lent.entry) message.now)) result out.old out.new }
 {
-    if !agreeing(index.node, index.cap, &index.keys, index.count, table) {
-        return refused(Refusal::BadState);
+    if !agree(index, table) {
+        return Err(Refusal::BadState);
     }
-    if message.len() == 0 {
-        return refused(Refusal::EmptyMessage);
+    if message.is_empty() {
+        return Err(Refusal::EmptyMessage);
     }
     if 1280 < message.len() {
-        return refused(Refusal::LongMessage);
+        return Err(Refusal::LongMessage);
     }
     if !is_request(message[0]) {
-        return refused(Refusal::MessageType);
+        return Err(Refusal::MessageType);
     }
-    answered(
-        &index.keys,
-        index.count,
-        table,
-        own,
-        content,
-        connection,
-        message,
-        out,
-    )
+    answered(index, table, lent, message, out)
 }
 
-// Whether an index with these parts and a table keep their rules and are of one node.
-fn agreeing(node: [u8; 32], cap: [u8; 32], listed: &[u8], count: usize, table: RoutingTable) -> bool
-    ensures { result ≡ agree keys.key_limit (keys.view_of node cap listed.now count) (view table) }
+// Whether an index and a table keep their rules and are of one node.
+fn agree(index: &KeyIndex, table: &RoutingTable) -> bool
+    ensures { result ≡ agree keys.key_limit (keys.view index.now) (view table.now) }
 {
-    if !key_index::is_good(node, cap, listed, count) {
+    if !index.is_good() {
         return false;
     }
-    let told = routing_table::survey(table, node);
-    if !told.good {
-        return false;
+    match table.survey(index.node) {
+        Some(told) => told.own,
+        None => false,
     }
-    told.own
 }
 
 // Whether the type of a message is that of a FindNode or a FindContent.
 fn is_request(kind: u8) -> bool
     ensures { result ≡ (eqb kind 3 || eqb kind 5) }
 {
-    if kind == 3 {
-        return true;
-    }
-    kind == 5
+    kind == 3 || kind == 5
 }
 
-// The reply to any message, from the keys of an index and a table that keeps its rules.
+// The reply to any message, from an index and a table that keeps its rules.
 fn answered(
-    listed: &[u8],
-    count: usize,
-    table: RoutingTable,
-    own: &[u8],
-    content: &[u8],
-    connection: [u8; 4],
+    index: &KeyIndex,
+    table: &RoutingTable,
+    lent: Lent,
     message: &[u8],
     out: &mut [u8],
-) -> ReplyAnswer
-    requires { good (view table) ≡ true }
-    ensures { Replies (in_room (length out.old) (reply_to_request (listing listed.now count) (view table) (record { own = own.entry.now; content = content.now; connection = connection }) (decode message.now))) result out.old out.new }
+) -> Result<Messages, Refusal>
+    requires { good (view table.now) ≡ true }
+    ensures { Replies (in_room (length out.old) (reply_to_request (keys.view index.now) (view table.now) (lending lent.entry) (decode message.now))) result out.old out.new }
 {
-    let read = message_read::read(message);
-    let kind = read.kind;
-    let start = read.start;
-    let end = start + read.len;
-    match kind {
-        Kind::FindNode => nodes::nodes(table, own, &message[start..end], out),
-        Kind::FindContent => content::found(
-            listed,
-            count,
-            table,
-            content,
-            connection,
-            &message[start..end],
-            out,
-        ),
-        Kind::Refused(why) => refused(why),
-        Kind::Ping => refused(Refusal::MessageType),
-        Kind::Pong => refused(Refusal::MessageType),
-        Kind::FoundNodes => refused(Refusal::MessageType),
-        Kind::FoundContent => refused(Refusal::MessageType),
-        Kind::Offer => refused(Refusal::MessageType),
-        Kind::Accept => refused(Refusal::MessageType),
-        Kind::Store => refused(Refusal::MessageType),
-    }
-}
-
-// A refusal: no lengths beside it.
-pub(crate) fn refused(why: Refusal) -> ReplyAnswer
-    ensures { result ≡ refused_of why }
-{
-    ReplyAnswer {
-        replied: Replied::Refused(why),
-        lens: [0usize; MESSAGES],
+    match message_read::read(message)? {
+        Reading::FindNode { distances } => {
+            let asked = &message[distances.start..distances.start + distances.len];
+            nodes::nodes(table, lent.own, asked, out)
+        }
+        Reading::FindContent { key } => {
+            let key = &message[key.start..key.start + key.len];
+            content::found(index, table, lent.content, lent.connection, key, out)
+        }
+        _ => Err(Refusal::MessageType),
     }
 }

@@ -4,34 +4,30 @@
 ghost use Rattle.std.specs.Prelude.{◌≤◌, ◌<◌};
 
 use key_index::KeyIndex;
-use reply::Replied;
+use reply::Lent;
 use routing_table::{Contact, RoutingTable};
 
 // Replies to a FindNode for every distance. The records are of a kind: 0 random, 1 equal but for their last byte, 2 but for their first. Answers a
 // sum of what is sent, so that the work cannot be left out.
 #[unsafe(no_mangle)]
 pub extern "C" fn nodes_many(rounds: u32, kind: u32) -> u64 {
-    let table = full_table(kind);
-    let own = node_record(kind, 128);
-    let request = every_distance();
-    many(rounds, table, &own, &request)
+    many(rounds, kind, &every_distance())
 }
 
 // Replies to a FindContent for a key that is not held, and to whose id every entry is nearer than we are.
 #[unsafe(no_mangle)]
 pub extern "C" fn content_many(rounds: u32, kind: u32) -> u64 {
-    let table = full_table(kind);
-    let own = node_record(kind, 128);
-    let request = [5u8, 4, 0, 0, 0, 0, 255, 0, 0, 0, 0, 0, 0, 0];
-    many(rounds, table, &own, &request)
+    many(rounds, kind, &[5, 4, 0, 0, 0, 0, 255, 0, 0, 0, 0, 0, 0, 0])
 }
 
-fn many(rounds: u32, table: RoutingTable, own: &[u8], request: &[u8]) -> u64 {
-    let index = key_index::fresh([0u8; 32], [255u8; 32]);
-    let mut out = [0u8; 65536];
-    let mut sum = 0u64;
-    for i in 0..rounds {
-        sum = added(sum, sent(index, table, own, request, &mut out));
+fn many(rounds: u32, kind: u32, request: &[u8]) -> u64 {
+    let index = KeyIndex::fresh([0; 32], [255; 32]);
+    let table = full_table(kind);
+    let own = node_record(kind, 128);
+    let mut out = [0; 65536];
+    let mut sum = 0;
+    for _ in 0..rounds {
+        sum = added(sum, sent(&index, &table, &own, request, &mut out));
     }
     sum
 }
@@ -41,14 +37,18 @@ fn added(sum: u64, n: u64) -> u64 {
 }
 
 // The number of messages, the length of the first, and a byte in its middle.
-fn sent(index: KeyIndex, table: RoutingTable, own: &[u8], request: &[u8], out: &mut [u8]) -> u64 {
-    let answer = reply::reply(index, table, own, &own[..0], [0u8; 4], request, out);
-    let lens = answer.lens;
-    let first = lens[0] % 4096;
-    let replied = answer.replied;
-    match replied {
-        Replied::Messages(n) => (n % 64 * 4096 + first) as u64 * 256 + middle(out) as u64,
-        Replied::Refused(_) => 0,
+fn sent(index: &KeyIndex, table: &RoutingTable, own: &[u8], request: &[u8], out: &mut [u8]) -> u64 {
+    let lent = Lent {
+        own,
+        content: &[],
+        connection: [0; 4],
+    };
+    match reply::reply(index, table, lent, request, out) {
+        Ok(told) => {
+            let first = told.lens[0] % 4096;
+            (told.count % 64 * 4096 + first) as u64 * 256 + middle(out) as u64
+        }
+        Err(_) => 0,
     }
 }
 
@@ -64,38 +64,33 @@ fn every_distance() -> [u8; 261] {
     let mut request = [0u8; 261];
     request[0] = 3;
     request[1] = 4;
-    for i in 0..256usize {
-        request[5 + i] = i as u8;
+    for (byte, distance) in request[5..].iter_mut().zip(0..=255u8) {
+        *byte = distance;
     }
     request
 }
 
 // 16 entries of each of eight log distances.
 fn full_table(kind: u32) -> RoutingTable {
-    let mut table = routing_table::fresh([0u8; 32]);
-    for i in 0..128u32 {
-        table = with_contact(table, id(i / 16, i % 16), kind, i);
+    let mut table = RoutingTable::fresh([0; 32]);
+    for i in 0..128 {
+        let contact = Contact {
+            id: id(i / 16, i % 16),
+            radius: [255; 32],
+            address: [127, 0, 0, 1],
+            port: 9009,
+            len: 300,
+            enr: node_record(kind, i),
+        };
+        let _ = routing_calls::seen(&mut table, contact);
     }
     table
-}
-
-fn with_contact(table: RoutingTable, id: [u8; 32], kind: u32, n: u32) -> RoutingTable {
-    let contact = Contact {
-        id,
-        radius: [255u8; 32],
-        address: [127, 0, 0, 1],
-        port: 9009,
-        len: 300,
-        enr: node_record(kind, n),
-    };
-    let done = routing_calls::seen(table, contact);
-    done.table
 }
 
 // The second byte in the range that gives the log distance, the first one zero, all else random.
 fn id(class: u32, n: u32) -> [u8; 32] {
     let bytes = random(class as u64 * 1000 + n as u64);
-    let mut id = octets::part32(&bytes, 0);
+    let mut id: [u8; 32] = octets::part(&bytes, 0);
     let top = weight(class);
     id[0] = 0;
     id[1] = top | id[1] & (top - 1);
@@ -125,6 +120,7 @@ fn node_record(kind: u32, n: u32) -> [u8; 300] {
     bytes
 }
 
+// Kept: the C interface hands over the kind as a number.
 fn seed(kind: u32, n: u32) -> u64 {
     if kind == 0 { n as u64 * 77 + 5 } else { 7 }
 }
@@ -132,9 +128,9 @@ fn seed(kind: u32, n: u32) -> u64 {
 fn random(seed: u64) -> [u8; 300] {
     let mut state = seed;
     let mut bytes = [0u8; 300];
-    for i in 0..300 {
+    for byte in &mut bytes {
         state = (state % 4294967296 * 1664525 + 1013904223) % 4294967296;
-        bytes[i] = (state / 65536 % 256) as u8;
+        *byte = (state / 65536 % 256) as u8;
     }
     bytes
 }

@@ -1,11 +1,12 @@
 // One reply into a part of a buffer that has a pattern, and what it leaves of it.
-ghost use Rattle.std.specs.Prelude.{◌≡◌, length};
-
-use console_text::{answer, words};
+use console_replies::Shown;
+use console_text::shown::Refused;
+use console_text::words::back;
 use key_index::KeyIndex;
 use refusal::Refusal;
-use reply::{Replied, ReplyAnswer};
+use reply::{Lent, Messages};
 use routing_table::RoutingTable;
+use std::{array, io};
 
 // How many bytes the buffer has.
 const BUFFER: usize = 1024;
@@ -29,116 +30,84 @@ pub fn all_lent(index: KeyIndex, table: RoutingTable) -> Setting {
     }
 }
 
-// A name, and the answer to a message.
-pub fn line(name: &[u8], setting: Setting, message: &[u8], out: &mut [u8], from: usize) -> usize {
-    let said = answer::text(out, from, name);
+// Prints a name and the answer to a message: each message as a word, or the refusal; whether there is another length, and whether all else
+// of the buffer is as it was.
+pub fn show(rt: &impl Print, name: &str, setting: &Setting, message: &[u8]) -> io::Result<()> {
     let mut buffer = pattern();
-    let made = made_in(setting, message, &mut buffer);
-    told(made, &buffer, out, said)
+    let made = made(setting, message, &mut buffer);
+    print!(rt; "{name}")?;
+    match made {
+        Ok(made) => {
+            let (lens, others) = parts(&made);
+            let messages = Shown {
+                bytes: &buffer,
+                lens,
+            };
+            println!(rt;
+                "reply{messages}{}{}",
+                lengths(others),
+                left(&buffer, total(lens))
+            )
+        }
+        Err(why) => println!(rt; "{}{}{}", Refused(why), lengths(&[]), left(&buffer, 0)),
+    }
 }
 
 // Bytes from 0 to 250, over and over.
-fn pattern() -> [u8; BUFFER]
-    ensures { 1024 ≡ length result }
-{
-    let mut bytes = [0u8; BUFFER];
-    for i in 0..BUFFER {
-        bytes[i] = (i % 251) as u8;
-    }
-    bytes
+fn pattern() -> [u8; BUFFER] {
+    array::from_fn(|i| (i % 251) as u8)
 }
 
-fn made_in(setting: Setting, message: &[u8], buffer: &mut [u8]) -> ReplyAnswer {
-    let room = setting.room;
-    if room < buffer.len() {
-        made(setting, message, &mut buffer[..room])
-    } else {
-        made(setting, message, buffer)
-    }
-}
-
-fn made(setting: Setting, message: &[u8], buffer: &mut [u8]) -> ReplyAnswer {
-    let index = setting.index;
-    let table = setting.table;
-    if setting.lent {
-        reply::reply(index, table, b"own", b"content", [0u8; 4], message, buffer)
-    } else {
-        reply::reply(index, table, b"", b"", [0u8; 4], message, buffer)
-    }
-}
-
-// Each message as a word, or the refusal; whether there is another length, and whether all else of the buffer is as it was.
-fn told(made: ReplyAnswer, buffer: &[u8], out: &mut [u8], from: usize) -> usize {
-    let lens = made.lens;
-    let replied = made.replied;
-    match replied {
-        Replied::Messages(n) => {
-            let said = answer::text(out, from, b"reply");
-            let at = console_replies::message_words(buffer, words::places(&lens, n), out, said);
-            left(&lens, n, total(words::places(&lens, n)), buffer, out, at)
+fn made(setting: &Setting, message: &[u8], buffer: &mut [u8]) -> Result<Messages, Refusal> {
+    let lent = if setting.lent {
+        Lent {
+            own: b"own",
+            content: b"content",
+            connection: [0; 4],
         }
-        Replied::Refused(why) => {
-            let at = number(why, out, from);
-            left(&lens, 0, 0, buffer, out, at)
+    } else {
+        Lent {
+            own: b"",
+            content: b"",
+            connection: [0; 4],
         }
-    }
+    };
+    let room = setting.room.min(buffer.len());
+    reply::reply(
+        &setting.index,
+        &setting.table,
+        lent,
+        message,
+        &mut buffer[..room],
+    )
 }
 
-fn number(why: Refusal, out: &mut [u8], from: usize) -> usize {
-    let at = answer::text(out, from, b"refused ");
-    answer::decimal(out, at, refusal::number(why) as u64)
+// The lengths of the messages, and those behind them.
+fn parts(made: &Messages) -> (&[usize], &[usize]) {
+    made.lens.split_at_checked(made.count).unwrap_or((&[], &[]))
 }
 
 // The bytes of all messages.
 fn total(lens: &[usize]) -> usize {
-    let mut size = 0;
-    for i in 0..lens.len() {
-        size = console_replies::behind(size, lens[i]);
-    }
-    size
+    lens.iter()
+        .fold(0usize, |size, len| size.saturating_add(*len))
 }
 
-// What stands behind the first n lengths, and behind the bytes that were written.
-fn left(
-    lens: &[usize],
-    n: usize,
-    size: usize,
-    buffer: &[u8],
-    out: &mut [u8],
-    from: usize,
-) -> usize {
-    let said = lengths_word(is_zeros(lens, n), out, from);
+// Whether all lengths behind those of the messages are zero.
+fn lengths(others: &[usize]) -> &'static str {
+    if others.iter().all(|len| *len == 0) {
+        ", no other length"
+    } else {
+        ", another length"
+    }
+}
+
+// What stands behind the bytes that were written.
+fn left(buffer: &[u8], size: usize) -> &'static str {
     let before = pattern();
-    let at = buffer_word(
-        octets::same(words::back(buffer, size), words::back(&before, size)),
-        out,
-        said,
-    );
-    answer::end(out, at)
-}
-
-fn lengths_word(zeros: bool, out: &mut [u8], at: usize) -> usize {
-    if zeros {
-        answer::text(out, at, b", no other length")
+    if back(buffer, size) == back(&before, size) {
+        ", all else as it was"
     } else {
-        answer::text(out, at, b", another length")
+        ", another buffer"
     }
-}
-
-fn buffer_word(same: bool, out: &mut [u8], at: usize) -> usize {
-    if same {
-        answer::text(out, at, b", all else as it was")
-    } else {
-        answer::text(out, at, b", another buffer")
-    }
-}
-
-// Whether all lengths from a place on are zero.
-fn is_zeros(lens: &[usize], from: usize) -> bool {
-    for i in from..lens.len() {
-        if lens[i] != 0 {
-            return false;
-        }
-    }
-    true
 }

@@ -5,7 +5,6 @@
 mod calls;
 
 use calls::Setting;
-use console_text::{answer, words};
 use key_index::KeyIndex;
 use routing_table::RoutingTable;
 use std::io;
@@ -60,23 +59,23 @@ fn show_indexes(rt: &impl Print) -> io::Result<()> {
     let some = edge_tables::some();
     let near = key(0, 90);
     let far = key(0, 91);
-    show(rt, b"two keys", two(), some)?;
+    show(rt, "two keys", two(), some)?;
     show(
         rt,
-        b"two keys, other unused bytes",
+        "two keys, other unused bytes",
         index(ones, 255, 2, near, far),
         some,
     )?;
-    show(rt, b"no keys", index(ones, 0, 0, near, far), some)?;
+    show(rt, "no keys", index(ones, 0, 0, near, far), some)?;
     show(
         rt,
-        b"no keys, other unused bytes",
+        "no keys, other unused bytes",
         index(ones, 238, 0, near, far),
         some,
     )?;
     show(
         rt,
-        b"a key at the cap",
+        "a key at the cap",
         index(reach(0), 0, 1, near, far),
         some,
     )
@@ -89,34 +88,34 @@ fn show_broken_indexes(rt: &impl Print) -> io::Result<()> {
     let far = key(0, 91);
     show(
         rt,
-        b"a key over the cap",
+        "a key over the cap",
         index(reach(1), 0, 1, near, far),
         some,
     )?;
-    show(rt, b"3001 keys", index(ones, 0, 3001, near, far), some)?;
+    show(rt, "3001 keys", index(ones, 0, 3001, near, far), some)?;
     show(
         rt,
-        b"the largest count",
+        "the largest count",
         index(ones, 0, usize::MAX, near, far),
         some,
     )?;
     show(
         rt,
-        b"a bad selector",
+        "a bad selector",
         index(ones, 0, 2, near, key(2, 91)),
         some,
     )?;
     show(
         rt,
-        b"the largest selector",
+        "the largest selector",
         index(ones, 0, 1, key(255, 90), far),
         some,
     )?;
-    show(rt, b"farthest first", index(ones, 0, 2, far, near), some)?;
-    show(rt, b"equal keys", index(ones, 0, 2, near, near), some)?;
+    show(rt, "farthest first", index(ones, 0, 2, far, near), some)?;
+    show(rt, "equal keys", index(ones, 0, 2, near, near), some)?;
     show(
         rt,
-        b"3000 keys, most of them equal",
+        "3000 keys, most of them equal",
         index(ones, 0, 3000, near, far),
         some,
     )
@@ -124,29 +123,24 @@ fn show_broken_indexes(rt: &impl Print) -> io::Result<()> {
 
 fn show_counts(rt: &impl Print) -> io::Result<()> {
     let all = edge_tables::most();
-    show(rt, b"no contacts", two(), edge_tables::none())?;
-    show(rt, b"128 entries and 16 replacements", two(), all)?;
+    show(rt, "no contacts", two(), edge_tables::none())?;
+    show(rt, "128 entries and 16 replacements", two(), all)?;
+    show(rt, "129 entries", two(), edge_tables::counted(all, 129, 16))?;
     show(
         rt,
-        b"129 entries",
-        two(),
-        edge_tables::counted(all, 129, 16),
-    )?;
-    show(
-        rt,
-        b"the largest number of entries",
+        "the largest number of entries",
         two(),
         edge_tables::counted(all, usize::MAX, 16),
     )?;
     show(
         rt,
-        b"17 replacements",
+        "17 replacements",
         two(),
         edge_tables::counted(all, 128, 17),
     )?;
     show(
         rt,
-        b"the largest number of replacements",
+        "the largest number of replacements",
         two(),
         edge_tables::counted(all, 128, usize::MAX),
     )
@@ -155,28 +149,28 @@ fn show_counts(rt: &impl Print) -> io::Result<()> {
 fn show_logs(rt: &impl Print) -> io::Result<()> {
     let fifteen = edge_tables::entries(edge_tables::none(), 1, 15);
     let full = edge_tables::entries(edge_tables::none(), 1, 16);
-    show(rt, b"16 entries of one log distance", two(), full)?;
+    show(rt, "16 entries of one log distance", two(), full)?;
     show(
         rt,
-        b"17 entries of one log distance",
+        "17 entries of one log distance",
         two(),
         edge_tables::entries(edge_tables::none(), 1, 17),
     )?;
     show(
         rt,
-        b"4 replacements of one log distance",
+        "4 replacements of one log distance",
         two(),
         edge_tables::replacements(full, 1, 20),
     )?;
     show(
         rt,
-        b"5 replacements of one log distance",
+        "5 replacements of one log distance",
         two(),
         edge_tables::replacements(full, 1, 21),
     )?;
     show(
         rt,
-        b"a replacement where there are 15 entries",
+        "a replacement where there are 15 entries",
         two(),
         edge_tables::replacement(fifteen, 1, 16),
     )
@@ -186,78 +180,78 @@ fn show_ids(rt: &impl Print) -> io::Result<()> {
     let some = edge_tables::some();
     show(
         rt,
-        b"two entries whose ids differ in one bit",
+        "two entries whose ids differ in one bit",
         two(),
         edge_tables::entry(some, 4, 1, 3),
     )?;
     show(
         rt,
-        b"two entries with one id",
+        "two entries with one id",
         two(),
         edge_tables::entry(some, 4, 0, 0),
     )?;
     show(
         rt,
-        b"two replacements with one id",
+        "two replacements with one id",
         two(),
         edge_tables::replacement(some, 2, 16),
     )?;
     show(
         rt,
-        b"an entry and a replacement with one id",
+        "an entry and a replacement with one id",
         two(),
         edge_tables::replacement(some, 2, 3),
     )?;
     show(
         rt,
-        b"our own id among the entries",
+        "our own id among the entries",
         two(),
         edge_tables::entry(some, 0, 0, 0),
     )?;
     show(
         rt,
-        b"our own id among the replacements",
+        "our own id among the replacements",
         two(),
         edge_tables::replacement(some, 0, 0),
     )?;
-    show(rt, b"4 failures", two(), edge_tables::entry(some, 4, 1, 4))
+    show(rt, "4 failures", two(), edge_tables::entry(some, 4, 1, 4))
 }
 
 fn show_records(rt: &impl Print) -> io::Result<()> {
     show_record(
         rt,
-        b"an entry with a record of 1 byte",
-        b"a replacement with a record of 1 byte",
+        "an entry with a record of 1 byte",
+        "a replacement with a record of 1 byte",
         1,
     )?;
     show_record(
         rt,
-        b"an entry with a record of 300 bytes",
-        b"a replacement with a record of 300 bytes",
+        "an entry with a record of 300 bytes",
+        "a replacement with a record of 300 bytes",
         300,
     )?;
     show_record(
         rt,
-        b"an entry with a record of no bytes",
-        b"a replacement with a record of no bytes",
+        "an entry with a record of no bytes",
+        "a replacement with a record of no bytes",
         0,
     )?;
     show_record(
         rt,
-        b"an entry with a record of 301 bytes",
-        b"a replacement with a record of 301 bytes",
+        "an entry with a record of 301 bytes",
+        "a replacement with a record of 301 bytes",
         301,
     )?;
     show_record(
         rt,
-        b"an entry with a record of the largest length",
-        b"a replacement with a record of the largest length",
+        "an entry with a record of the largest length",
+        "a replacement with a record of the largest length",
         usize::MAX,
     )
 }
 
 // A table with an entry more, and one with a replacement more, whose record has so many bytes.
-fn show_record(rt: &impl Print, entry: &[u8], replacement: &[u8], len: usize) -> io::Result<()> {
+fn show_record(rt: &impl Print, entry: &str, replacement: &str, len: usize) -> io::Result<()> {
     let some = edge_tables::some();
     show(
         rt,
@@ -278,14 +272,14 @@ fn show_both(rt: &impl Print) -> io::Result<()> {
     let some = edge_tables::some();
     show(
         rt,
-        b"3001 keys and 4 failures",
+        "3001 keys and 4 failures",
         index(ones, 0, 3001, key(0, 90), key(0, 91)),
         edge_tables::entry(some, 4, 1, 4),
     )?;
     show(
         rt,
-        b"an index of another node",
-        key_index::fresh([91u8; 32], ones),
+        "an index of another node",
+        KeyIndex::fresh([91u8; 32], ones),
         some,
     )
 }
@@ -294,43 +288,43 @@ fn show_unused(rt: &impl Print) -> io::Result<()> {
     let some = edge_tables::some();
     show(
         rt,
-        b"unused: the ids of an entry and of a replacement",
+        "unused: the ids of an entry and of a replacement",
         two(),
         edge_tables::unused(edge_tables::replacement(edge_tables::entry(some, 1, 0, 0), 1, 16)),
     )?;
     show(
         rt,
-        b"unused: our own id",
+        "unused: our own id",
         two(),
         edge_tables::unused(edge_tables::replacement(edge_tables::entry(some, 0, 0, 0), 0, 0)),
     )?;
     show(
         rt,
-        b"unused: 255 failures",
+        "unused: 255 failures",
         two(),
         edge_tables::unused(edge_tables::entry(some, 4, 1, 255)),
     )?;
     show(
         rt,
-        b"unused: records of no bytes",
+        "unused: records of no bytes",
         two(),
         edge_tables::unused(edge_tables::one_more(some, 0)),
     )?;
     show(
         rt,
-        b"unused: records of the largest length",
+        "unused: records of the largest length",
         two(),
         edge_tables::unused(edge_tables::one_more(some, usize::MAX)),
     )?;
     show(
         rt,
-        b"unused: other bytes behind a record",
+        "unused: other bytes behind a record",
         two(),
         edge_tables::other_bytes(some),
     )?;
     show(
         rt,
-        b"unused: 128 entries and 16 replacements",
+        "unused: 128 entries and 16 replacements",
         two(),
         edge_tables::counted(edge_tables::most(), 0, 0),
     )
@@ -338,58 +332,52 @@ fn show_unused(rt: &impl Print) -> io::Result<()> {
 
 // Buffers one byte short and just long enough for one message, for the first of two and for both.
 fn show_rooms(rt: &impl Print) -> io::Result<()> {
-    show_room(rt, b"no bytes of room", 0)?;
-    show_room(rt, b"1 byte of room", 1)?;
-    show_room(rt, b"19 bytes of room", 19)?;
-    show_room(rt, b"20 bytes of room", 20)?;
-    show_room(rt, b"21 bytes of room", 21)?;
-    show_room(rt, b"108 bytes of room", 108)?;
-    show_room(rt, b"109 bytes of room", 109)?;
-    show_room(rt, b"110 bytes of room", 110)?;
-    show_room(rt, b"198 bytes of room", 198)?;
-    show_room(rt, b"199 bytes of room", 199)?;
-    show_room(rt, b"216 bytes of room", 216)?;
-    show_room(rt, b"217 bytes of room", 217)?;
-    show_room(rt, b"218 bytes of room", 218)
+    show_room(rt, "no bytes of room", 0)?;
+    show_room(rt, "1 byte of room", 1)?;
+    show_room(rt, "19 bytes of room", 19)?;
+    show_room(rt, "20 bytes of room", 20)?;
+    show_room(rt, "21 bytes of room", 21)?;
+    show_room(rt, "108 bytes of room", 108)?;
+    show_room(rt, "109 bytes of room", 109)?;
+    show_room(rt, "110 bytes of room", 110)?;
+    show_room(rt, "198 bytes of room", 198)?;
+    show_room(rt, "199 bytes of room", 199)?;
+    show_room(rt, "216 bytes of room", 216)?;
+    show_room(rt, "217 bytes of room", 217)?;
+    show_room(rt, "218 bytes of room", 218)
 }
 
-fn show_room(rt: &impl Print, name: &[u8], room: usize) -> io::Result<()> {
+fn show_room(rt: &impl Print, name: &str, room: usize) -> io::Result<()> {
     let mut setting = calls::all_lent(two(), edge_tables::some());
     setting.room = room;
-    show_replies(rt, name, setting)
+    show_replies(rt, name, &setting)
 }
 
-fn show(rt: &impl Print, name: &[u8], index: KeyIndex, table: RoutingTable) -> io::Result<()> {
-    show_replies(rt, name, calls::all_lent(index, table))
+fn show(rt: &impl Print, name: &str, index: KeyIndex, table: RoutingTable) -> io::Result<()> {
+    show_replies(rt, name, &calls::all_lent(index, table))
 }
 
 // Prints the replies to a FindNode, and to a FindContent for a key that is held and for one that is not.
-fn show_replies(rt: &impl Print, name: &[u8], setting: Setting) -> io::Result<()> {
-    let mut out = [0u8; 4096];
-    let named = answer::text(&mut out, 0, name);
-    let start = answer::end(&mut out, named);
-    let nodes = calls::line(
-        b"  nodes: ",
+fn show_replies(rt: &impl Print, name: &str, setting: &Setting) -> io::Result<()> {
+    println!(rt; "{name}")?;
+    calls::show(
+        rt,
+        "  nodes: ",
         setting,
         b"\x03\x04\x00\x00\x00\x0b\x00\x09\x0a",
-        &mut out,
-        start,
-    );
-    let held = calls::line(
-        b"  held: ",
+    )?;
+    calls::show(
+        rt,
+        "  held: ",
         setting,
         b"\x05\x04\x00\x00\x00\x00\x5a\x5a\x00\x00\x00\x00\x00\x00",
-        &mut out,
-        nodes,
-    );
-    let last = calls::line(
-        b"  not held: ",
+    )?;
+    calls::show(
+        rt,
+        "  not held: ",
         setting,
         b"\x05\x04\x00\x00\x00\x01\x5a\x5a\x00\x00\x00\x00\x00\x00",
-        &mut out,
-        held,
-    );
-    rt.write_all(words::front(&out, last))
+    )
 }
 
 fn show_refusals(rt: &impl Print) -> io::Result<()> {
@@ -397,36 +385,29 @@ fn show_refusals(rt: &impl Print) -> io::Result<()> {
     let mut many = [0u8; 262];
     many[0] = 3;
     many[1] = 4;
-    show_refusal(rt, b"no bytes: ", b"")?;
-    show_refusal(rt, b"1,281 bytes: ", &long)?;
-    show_refusal(rt, b"another type: ", b"\x04")?;
-    show_refusal(rt, b"an offset cut off: ", b"\x03\x04\x00\x00")?;
-    show_refusal(rt, b"257 distances: ", &many)?;
-    show_refusal(rt, b"a distance twice: ", b"\x03\x04\x00\x00\x00\x07\x07")?;
-    show_refusal(rt, b"a key of no bytes: ", b"\x05\x04\x00\x00\x00")?;
+    show_refusal(rt, "no bytes: ", b"")?;
+    show_refusal(rt, "1,281 bytes: ", &long)?;
+    show_refusal(rt, "another type: ", b"\x04")?;
+    show_refusal(rt, "an offset cut off: ", b"\x03\x04\x00\x00")?;
+    show_refusal(rt, "257 distances: ", &many)?;
+    show_refusal(rt, "a distance twice: ", b"\x03\x04\x00\x00\x00\x07\x07")?;
+    show_refusal(rt, "a key of no bytes: ", b"\x05\x04\x00\x00\x00")?;
     show_refusal(
         rt,
-        b"a bad selector: ",
+        "a bad selector: ",
         b"\x05\x04\x00\x00\x00\x02\x5a\x5a\x00\x00\x00\x00\x00\x00",
     )?;
     show_unusable(rt)
 }
 
-fn show_refusal(rt: &impl Print, name: &[u8], message: &[u8]) -> io::Result<()> {
-    let mut out = [0u8; 4096];
-    let last = calls::line(
-        name,
-        calls::all_lent(two(), edge_tables::some()),
-        message,
-        &mut out,
-        0,
-    );
-    rt.write_all(words::front(&out, last))
+fn show_refusal(rt: &impl Print, name: &str, message: &[u8]) -> io::Result<()> {
+    let setting = calls::all_lent(two(), edge_tables::some());
+    calls::show(rt, name, &setting, message)
 }
 
 // Nothing is lent.
 fn show_unusable(rt: &impl Print) -> io::Result<()> {
     let mut setting = calls::all_lent(two(), edge_tables::some());
     setting.lent = false;
-    show_replies(rt, b"nothing lent", setting)
+    show_replies(rt, "nothing lent", &setting)
 }

@@ -1,5 +1,5 @@
-pub mod Carried
-pub mod Inserted
+pub mod Fronts
+pub mod Ranks
 pub mod Orders
 pub mod Slotted
 pub mod Kept

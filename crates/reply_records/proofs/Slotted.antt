@@ -1,18 +1,23 @@
 -- Slots of 300 bytes: where each starts, what stands in it, and what one more record does. Assumes nothing.
-use Prim.Native.Nat.{ℕ, zero, suc, ◌+◌, ◌*◌, ◌<◌, ◌≤◌, min}
+use Prim.Native.Nat.{ℕ, zero, suc, ◌+◌, ◌-◌, ◌*◌, ◌<◌, ◌≤◌, min}
 use native.Mathlib.Decide.{ℕ_discrete, dec_lt}
+use native.Mathlib.Nat.{zero-add}
 use native.Mathlib.Omega.{arith}
 use mathlib.Core.Path.{◌≡◌, refl, sym, ap, ap₂, subst, ◌∙◌}
-use mathlib.Core.Bool.{Bool, true, false, ◌||◌}
+use mathlib.Core.Bool.{Bool, true, false, ◌||◌, true≢false}
 use mathlib.Core.List.{List, [], ◌∷◌, ◌++◌, append_assoc}
 use lib.Dec.{leb}
 use lib.ListN.{length, get_or, take, drop, set, take-append-drop, length-append, length-drop, length-set}
 use lib.Seq.{take_all, length-take-le, take_at, drop_at, get_or-set_same, get_or-set_other, take-append-le, drop-append-le}
 use borrow.Author.Tests.{leb-true}
+use Rattle.std.proofs.Common.{Option, Some, None, Bor, nat_eq, eq-eqb}
+use Rattle.std.specs.List.{slice_get, list_any, range_with_len}
+use Rattle.std.specs.Option.{option_copied, option_eq}
+use Rattle.std.proofs.lemmas.Option.{none-some}
 use Rattle.octets.specs.Equal.{same_bytes, holds}
 use Rattle.octets.specs.Buffer.{placed}
 use Rattle.octets.proofs.Buffers.{placed_room}
-use Rattle.octets.proofs.Equal.{holds_left, holds_end}
+use Rattle.octets.proofs.Equal.{differ_same}
 use Rattle.octets.proofs.Tables.{table_length, entry_at}
 use Rattle.octets.proofs.Tests.{both}
 use Rattle.message.specs.Reading.{part_at, records_at}
@@ -122,30 +127,41 @@ module _ (r : List ℕ) (count : ℕ) (lens bytes : List ℕ) (s : Slots count l
               let k = s.small i (omega arith) in
               omega arith
 
--- an answer that is known, where it is due
-pub told : (r t : Bool) {h : Bool} → r ≡ t → h ≡ t → r ≡ h
-told r t p q = p ∙ sym q
+-- records whose last bytes differ are two
+pub last_differs : (x y : Option (Bor ℕ)) (a b : List ℕ) → option_copied x ≡ slice_get a (length a - 1) → option_copied y ≡ slice_get b (length b - 1)
+    → option_eq (λ (p q : Bor ℕ). nat_eq p.now q.now) x y ≡ false → same_bytes a b ≡ false
+last_differs x y a b p q e = differ_same a b (λ same. different x y (p ∙ ap (λ (l : List ℕ). slice_get l (length l - 1)) same ∙ sym q) e)
+  where
+    inner : {m n : ℕ} → ◌≡◌ {A = Option ℕ} (Some m) (Some n) → m ≡ n
+    inner s = cc
 
--- the search for a record, one turn: it is in the slot, or not; or none is left
-module _ (offered : List ℕ) (count : ℕ) (lens bytes : List ℕ) (s : Slots count lens bytes) where
-  many : length (slotted bytes lens count) ≡ count
-  many = records_length bytes slots lens count
+    different : (x y : Option (Bor ℕ)) → option_copied x ≡ option_copied y → option_eq (λ (p q : Bor ℕ). nat_eq p.now q.now) x y ≡ false → ⊥
+    different None None s d = true≢false d
+    different None (Some y) s d = none-some _ s
+    different (Some x) None s d = none-some _ (sym s)
+    different (Some x) (Some y) s d = true≢false (sym (eq-eqb x.now y.now (inner s)) ∙ d)
 
-  module _ (i : ℕ) (h : i < count) (t : Bool) (is : t ≡ same_bytes offered (part_at bytes (300 * i) (get_or lens i 0))) where
-    here : holds same_bytes offered (drop i (slotted bytes lens count)) ≡ (t || holds same_bytes offered (drop (i + 1) (slotted bytes lens count)))
-    here =
-        holds_left same_bytes offered (slotted bytes lens count) i [] (omega (arith, many))
-        ∙ ap (λ (b : Bool). b || holds same_bytes offered (drop (i + 1) (slotted bytes lens count)))
-        (ap (same_bytes offered) (record_at_lem bytes slots lens count i h ∙ ap (λ (a : ℕ). part_at bytes a (get_or lens i 0)) (slot_at i (omega (arith, s.few)))) ∙ sym is)
+-- a search by places finds what is in the list
+any_holds : {A : Type 0} (same : A → A → Bool) (a none : A) (test : ℕ → Bool) (l : List A) (from n : ℕ) → length l ≡ n
+    → ((i : ℕ) → i < n → test (from + i) ≡ same a (get_or l i none)) → list_any test (range_with_len from n) ≡ holds same a l
+unfolding holds
+any_holds same a none test [] from zero long is = refl
+any_holds same a none test [] from (suc n) long is = absurd (omega arith)
+any_holds same a none test (b ∷ l) from zero long is = absurd (omega arith)
+any_holds same a none test (b ∷ l) from (suc n) long is =
+    ap₂ (λ (s t : Bool). s || t)
+    (ap test (omega arith) ∙ is 0 (omega arith))
+    (any_holds same a none test l (from + 1) n (omega arith) (λ i h. ap test (omega arith) ∙ is (suc i) (omega arith)))
 
-    pub slot_holds : t ≡ true → holds same_bytes offered (drop i (slotted bytes lens count)) ≡ true
-    slot_holds e = here ∙ ap (λ (b : Bool). b || holds same_bytes offered (drop (i + 1) (slotted bytes lens count))) e
-
-    pub slot_not : t ≡ false → holds same_bytes offered (drop i (slotted bytes lens count)) ≡ holds same_bytes offered (drop (i + 1) (slotted bytes lens count))
-    slot_not e = here ∙ ap (λ (b : Bool). b || holds same_bytes offered (drop (i + 1) (slotted bytes lens count))) e
-
-  pub slot_none : (i : ℕ) → count ≤ i → holds same_bytes offered (drop i (slotted bytes lens count)) ≡ false
-  slot_none i h = holds_end same_bytes offered (slotted bytes lens count) i (omega (arith, many))
+-- the search for a record in the slots
+pub slots_hold : (offered : List ℕ) (count : ℕ) (lens bytes : List ℕ) → Slots count lens bytes
+    → list_any (λ (i : ℕ). same_bytes offered (part_at bytes (300 * i) (get_or lens i 0))) (range_with_len 0 count) ≡ holds same_bytes offered (slotted bytes lens count)
+slots_hold offered count lens bytes s =
+    any_holds same_bytes offered [] _ (slotted bytes lens count) 0 count (records_length bytes slots lens count)
+    (λ i h.
+    ap (λ (k : ℕ). same_bytes offered (part_at bytes (300 * k) (get_or lens k 0))) (zero-add i)
+    ∙ ap (λ (a : ℕ). same_bytes offered (part_at bytes a (get_or lens i 0))) (sym (slot_at i (omega (arith, s.few))))
+    ∙ ap (same_bytes offered) (sym (record_at_lem bytes slots lens count i h)))
 
 -- a length that is no more than the array has takes the same
 pub take_capped : (l : List ℕ) (n len : ℕ) → n ≡ min len 300 → length l ≡ 300 → take n l ≡ take len l

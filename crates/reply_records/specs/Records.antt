@@ -4,6 +4,8 @@ use Rattle.octets.specs.Equal.{same_bytes, holds}
 use Rattle.octets.specs.Table.{table_of}
 use Rattle.message.specs.Reading.{records_at}
 use Rattle.routing_table.specs.View.{View}
+use Rattle.routing_table.specs.Rules.{◌among◌}
+use Rattle.routing_table.specs.declared.Entry.{Entry}
 use Rattle.replies.specs.Chosen.{chosen, entry_record, once}
 use Rattle.replies.specs.Nodes.{sendable}
 use Rattle.reply_records.specs.Order.{entry_at}
@@ -44,6 +46,10 @@ pub record Holds (records : List (List ℕ)) (r : Records) : Type 0 where
 -- the records that can be sent of some records, each once
 abbrev pub sent : List (List ℕ) → List (List ℕ)
 sent records = once (chosen sendable records)
+
+-- the records of these entries stand in 300 bytes
+pub record Whole (entries : List Entry) : Type 0 where
+  pub each : (e : Entry) → e among entries → length e.contact.enr ≡ 300
 
 -- our own record and those of the entries at the places
 abbrev pub Gathers : View → List ℕ → Order → Records → Type 0

@@ -1,123 +1,94 @@
 // Records copied one after another into slots of 300 bytes, each once.
-ghost use Rattle.std.specs.Prelude.{ℕ, ◌*◌, ◌<◌, ◌≤◌, min, ◌≡◌, length, get_or};
+ghost use Rattle.std.specs.Prelude.{ℕ, ◌*◌, ◌<◌, ◌≤◌, ◌≡◌, length, get_or, map, take};
 ghost use Rattle.octets.specs.Equal.{same_bytes, holds};
 ghost use Rattle.message.specs.Reading.{part_at};
 ghost use Rattle.routing_table.specs.View.{view};
-ghost use Rattle.routing_table.specs.declared.Entry.{Entry};
+ghost use Rattle.reply_records.specs.Order.{Placed, entry_at};
+ghost use Rattle.reply_records.specs.Records.{slots, slotted, Slots, Whole, Gathers, Keeps};
 ghost use Rattle.replies.specs.Chosen.{entry_record};
-ghost use Rattle.reply_records.specs.Records.{slots, slotted, Slots, Gathers, Keeps};
+ghost use Rattle.routing_table.specs.declared.Entry.{Entry};
 
 use crate::order::Order;
 use crate::{RECORDS, Records};
 use routing_table::{Entry, RECORD, RoutingTable};
+use std::array;
 
 // Our own record, unless it has no bytes, and those of the entries at the places.
-pub(crate) fn gather(table: RoutingTable, own: &[u8], order: Order) -> Records
-    requires { (order.count ≤ 128) × (order.count ≤ length order.places) × ((i : ℕ) → i < order.count → (get_or order.places i 0 < table.count) × (get_or order.places i 0 < 128)) }
-    ensures { Gathers (view table) own.now order result }
+pub(crate) fn gather(table: &RoutingTable, own: &[u8], order: Order) -> Records
+    requires { Placed table.now.count order }
+    ensures records { Gathers (view table.now) own.now order result }
+    ensures whole { Whole (map (entry_at (view table.now)) (take order.count order.places)) }
 {
-    let mut lens = [0usize; RECORDS];
-    let mut bytes = [0u8; RECORDS * RECORD];
-    let mut count = keep(own, 0, &mut lens, &mut bytes);
-    for i in 0..order.count {
-        let place = order.places[i];
-        let entry = table.entries[place];
-        count = keep_entry(entry, count, &mut lens, &mut bytes);
+    let mut kept = none();
+    kept.keep(own);
+    for place in &order.places[..order.count] {
+        kept.keep_entry(&table.entries[*place]);
     }
+    kept
+}
+
+// No records.
+fn none() -> Records
+    ensures starts { result.starts ≡ slots }
+    ensures count { result.count ≡ 0 }
+    ensures room { Slots 0 result.lens result.bytes }
+{
     Records {
-        count,
-        starts: slots(),
-        lens,
-        bytes,
+        count: 0,
+        starts: array::from_fn(|i| RECORD * i),
+        lens: [0; RECORDS],
+        bytes: [0; RECORDS * RECORD],
     }
 }
 
-// The record of an entry is kept.
-fn keep_entry(entry: Entry, count: usize, lens: &mut [usize], bytes: &mut [u8]) -> usize
-    requires { (count < 129) × Slots count lens.old bytes.old }
-    ensures { Keeps (entry_record entry) count lens.old bytes.old result lens.new bytes.new }
+// The first bytes of a record's array, and no more than it has.
+fn front(enr: &[u8; RECORD], len: usize) -> &[u8]
+    ensures part { result.now ≡ take len enr.now }
+    ensures size { length enr.now ≡ 300 }
 {
-    let contact = entry.contact;
-    let enr = contact.enr;
-    let len = capped(contact.len);
-    keep(&enr[..len], count, lens, bytes)
+    &enr[..len.min(RECORD)]
 }
 
-// A length, but no more than a record's array has.
-fn capped(len: usize) -> usize
-    ensures { result ≡ min len 300 }
-{
-    if RECORD < len {
-        return RECORD;
+impl Records {
+    // The record of an entry is kept.
+    fn keep_entry(&mut self, entry: &Entry)
+        requires { (self.old.count < 129) × Slots self.old.count self.old.lens self.old.bytes }
+        ensures { (length entry.now.contact.enr ≡ 300) × (self.new.starts ≡ self.old.starts) × Keeps (entry_record entry.now) self.old.count self.old.lens self.old.bytes self.new.count self.new.lens self.new.bytes }
+    {
+        self.keep(front(&entry.contact.enr, entry.contact.len));
     }
-    len
-}
 
-// A record is kept, unless it has no bytes, or more than 300, or is kept already. Answers how many are kept now.
-fn keep(offered: &[u8], count: usize, lens: &mut [usize], bytes: &mut [u8]) -> usize
-    requires { (count < 129) × Slots count lens.old bytes.old }
-    ensures { Keeps offered.now count lens.old bytes.old result lens.new bytes.new }
-{
-    let len = offered.len();
-    if !routing_table::record_fits(len) {
-        return count;
-    }
-    if is_kept(offered, count, lens, bytes) {
-        return count;
-    }
-    octets::put(offered, bytes, RECORD * count);
-    lens[count] = len;
-    count + 1
-}
-
-// Whether a record is among the first `count`.
-fn is_kept<'a>(offered: &'a [u8], count: usize, lens: &'a [usize], bytes: &'a [u8]) -> bool
-    requires { (1 ≤ length offered.now) × (length offered.now ≤ 300) × Slots count lens.now bytes.now }
-    ensures { result ≡ holds same_bytes offered.now (slotted bytes.now lens.now count) }
-{
-    for i in 0..count {
-        if is_slot(offered, i, lens, bytes) {
-            return true;
+    // A record is kept, unless it has no bytes, or more than 300, or is kept already.
+    fn keep(&mut self, offered: &[u8])
+        requires { (self.old.count < 129) × Slots self.old.count self.old.lens self.old.bytes }
+        ensures { (self.new.starts ≡ self.old.starts) × Keeps offered.now self.old.count self.old.lens self.old.bytes self.new.count self.new.lens self.new.bytes }
+    {
+        if !routing_table::record_fits(offered.len()) {
+            return;
         }
+        if self.has(offered) {
+            return;
+        }
+        octets::put(offered, &mut self.bytes, RECORD * self.count);
+        self.lens[self.count] = offered.len();
+        self.count += 1;
     }
-    false
-}
 
-// Whether a record is the one in a slot.
-fn is_slot<'a>(offered: &'a [u8], i: usize, lens: &'a [usize], bytes: &'a [u8]) -> bool
-    requires { (1 ≤ length offered.now) × (length offered.now ≤ 300) × (i < 129) × (length lens.now ≡ 129) × (length bytes.now ≡ 38700) × (get_or lens.now i 0 ≤ 300) }
-    ensures { result ≡ same_bytes offered.now (part_at bytes.now (300 * i) (get_or lens.now i 0)) }
-{
-    if lens[i] != offered.len() {
-        return false;
+    // Whether a record is kept.
+    fn has(&self, offered: &[u8]) -> bool
+        requires { Slots self.now.count self.now.lens self.now.bytes }
+        ensures { result ≡ holds same_bytes offered.now (slotted self.now.bytes self.now.lens self.now.count) }
+    {
+        (0..self.count).any(|i| self.is_slot(i, offered))
     }
-    let at = RECORD * i;
-    same(offered, &bytes[at..at + offered.len()])
-}
 
-// Whether two records of one length are equal: the last byte first, then all of them, so that the time does not depend on where they differ.
-fn same<'a>(a: &'a [u8], b: &'a [u8]) -> bool
-    requires { (1 ≤ length a.now) × (length a.now ≡ length b.now) }
-    ensures { result ≡ same_bytes a.now b.now }
-{
-    let last = a.len() - 1;
-    if a[last] != b[last] {
-        return false;
+    // Whether a record is the one in a slot: by its last byte first, which is where records of one kind differ most.
+    fn is_slot(&self, i: usize, offered: &[u8]) -> bool
+        requires { (i < 129) × (length self.now.lens ≡ 129) × (length self.now.bytes ≡ 38700) × (get_or self.now.lens i 0 ≤ 300) }
+        ensures { result ≡ same_bytes offered.now (part_at self.now.bytes (300 * i) (get_or self.now.lens i 0)) }
+    {
+        let at = RECORD * i;
+        let slot = &self.bytes[at..at + self.lens[i]];
+        offered.last() == slot.last() && offered == slot
     }
-    let mut same = true;
-    for i in 0..a.len() {
-        same = same & (a[i] == b[i]);
-    }
-    same
-}
-
-// Where each slot starts.
-fn slots() -> [usize; RECORDS]
-    ensures { result ≡ slots }
-{
-    let mut starts = [0usize; RECORDS];
-    for i in 0..RECORDS {
-        starts[i] = RECORD * i;
-    }
-    starts
 }

@@ -1,24 +1,19 @@
--- The cases of `long_header`, `header_in`, `filled` and `content_of`, each by the tests that lead to it; and one turn of the loop that reads the
--- length. Assumes nothing.
-use Prim.Native.Nat.{ℕ, ◌+◌, ◌-◌, ◌*◌, ◌^◌, ◌≤◌, ◌<◌}
-use native.Mathlib.Nat.{pow-suc, pow-le-pow_right}
-use native.Mathlib.Numerals.{add-one}
+-- The cases of `long_header`, `header_in`, `filled` and `content_of`, each by the tests that lead to it. Assumes nothing.
+use Prim.Native.Nat.{ℕ, zero, suc, ◌+◌, ◌-◌, ◌≤◌, ◌<◌}
 use native.Mathlib.Omega.{arith}
-use mathlib.Core.List.{List, [], ◌∷◌}
+use mathlib.Core.List.{List, [], ◌∷◌, ◌++◌}
 use mathlib.Core.Bool.{cond}
 use mathlib.Core.Path.{◌≡◌, refl, sym, ap, ◌∙◌}
-use lib.Arith.{digits_lt}
-use lib.Dec.{leb, lit<}
-use lib.ListN.{length, get_or, take, drop}
-use lib.Seq.{take-suc}
+use lib.Dec.{leb}
+use lib.ListN.{length, get_or, take, drop, replicate}
 use borrow.Author.Tests.{lt-ltb, le-ltb, le-leb, lt-leb, eq-eqb, ne_eqb}
-use Rattle.refusal.specs.Outcome.{given, refused}
+use Rattle.refusal.specs.Says.{Said}
+use Rattle.refusal.specs.Outcome.{given, refusal, refused}
+use Rattle.refusal.proofs.Outcomes.{given_not}
 use Rattle.octets.specs.Bytes.{be}
-use Rattle.octets.proofs.Numbers.{be_append}
-use Rattle.rlp.specs.Content.{place, long_header, header_in, filled, content_by, content_of}
+use Rattle.octets.proofs.Numbers.{be_zero_first}
+use Rattle.rlp.specs.Content.{Header, Wrong, Cut, Whole, begun, place, long_header, header_in, filled, content_by, content_of}
 use Rattle.rlp.specs.declared.Payload.{Payload}
-use Rattle.rlp.specs.declared.Header.{Header}
-use Rattle.rlp.specs.declared.Header.TheVariants.{Wrong, Cut, Whole}
 
 -- none of the length bytes is there
 pub long_none : (k : ℕ) (rest : List ℕ) → length rest ≡ 0 → long_header k rest ≡ Cut
@@ -89,17 +84,24 @@ pub content_by_lem : (s : List ℕ) (h : Header) → header_in s ≡ h → conte
 unfolding content_of
 content_by_lem s h e = ap (content_by (length s)) e
 
--- a byte more multiplies the number by 256
-pub be_more : (s : List ℕ) (i : ℕ) → i < length s → be (take i s) * 256 + get_or s i 0 ≡ be (take (i + 1) s)
-unfolding be
-be_more s i h =
-    sym (ap be (ap (λ (n : ℕ). take n s) (add-one i) ∙ take-suc s i 0 h)
-    ∙ be_append (take i s) (get_or s i 0 ∷ []) ∙ omega arith)
+-- content is refused as its header is
+pub refused_begun : (s : List ℕ) {says : Said} → refusal says ≡ begun (header_in s) → refusal says ≡ content_of s
+unfolding content_of
+refused_begun s {says} e = go (header_in s) e
+  where
+    go : (h : Header) → refusal says ≡ begun h → refusal says ≡ content_by (length s) h
+    go Wrong e = e
+    go Cut e = e
+    go (Whole p) e = given_not (sym e)
 
--- so i + 1 bytes stand for less than 256 ^ (i + 1)
-pub more_lt : (n b i : ℕ) → n < 256 ^ i → b < 256 → n * 256 + b < 256 ^ (i + 1)
-more_lt n b i h k = rw (add-one, pow-suc) (digits_lt h k)
+-- a header that gives a place is whole
+pub whole_begun : (h : Header) {p : Payload} → given p ≡ begun h → h ≡ Whole p
+whole_begun Wrong e = given_not e
+whole_begun Cut e = given_not e
+whole_begun (Whole q) {p} e = let same : q ≡ p = cc in ap Whole same
 
--- and eight bytes fit 64 bits
-pub more_fits : (n b i : ℕ) → i < 8 → n < 256 ^ i → b < 256 → n * 256 + b < 2 ^ 64
-more_fits n b i e h k = omega (arith, more_lt n b i h k, pow-le-pow_right {n = 256} (lit< tt) {i = i + 1} {j = 8} (omega arith))
+-- zeros in front do not change the number
+pub be_behind : (n m : ℕ) (s : List ℕ) → be (take m (replicate n 0) ++ s) ≡ be s
+be_behind n zero s = refl
+be_behind zero (suc m) s = refl
+be_behind (suc n) (suc m) s = be_zero_first (take m (replicate n 0) ++ s) ∙ be_behind n m s

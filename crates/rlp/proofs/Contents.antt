@@ -14,11 +14,9 @@ use Rattle.refusal.specs.Outcome.{Outcome, given, refusal, refused}
 use Rattle.refusal.proofs.Outcomes.{given_not}
 use Rattle.octets.specs.Bytes.{Bytes}
 use Rattle.octets.proofs.Numbers.{bytes_append, bytes_replicate}
-use Rattle.rlp.specs.Content.{place, header_in, content_of}
+use Rattle.rlp.specs.Content.{Header, Wrong, Cut, Whole, place, header_in, content_of}
 use Rattle.rlp.specs.Written.{header_of, payload_in, Placed, Acceptable, Completes, EndsEarly, IsWrong}
 use Rattle.rlp.specs.declared.Payload.{Payload}
-use Rattle.rlp.specs.declared.Header.{Header}
-use Rattle.rlp.specs.declared.Header.TheVariants.{Wrong, Cut, Whole}
 use Rattle.rlp.proofs.Cases.{first_none, filled_early, filled_over, filled_whole, content_by_lem}
 use Rattle.rlp.proofs.Headers.{never, header_more, header_within, header_written, written_header, header_cut}
 

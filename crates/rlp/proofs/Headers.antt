@@ -12,11 +12,9 @@ use lib.ListN.{length, get_or, take, drop, replicate, length-append, length-drop
 use lib.Seq.{length-take-le, take_all, take-append-le, take-append_seam, drop-append-le, drop-drop, get_or-take}
 use Rattle.octets.specs.Bytes.{Bytes, be}
 use Rattle.octets.proofs.Numbers.{bytes_take, bytes_replicate, be_lt, be_append}
-use Rattle.rlp.specs.Content.{place, long_header, header_in}
+use Rattle.rlp.specs.Content.{Header, Wrong, Cut, Whole, place, long_header, header_in}
 use Rattle.rlp.specs.Written.{fewest, header_of}
 use Rattle.rlp.specs.declared.Payload.{Payload}
-use Rattle.rlp.specs.declared.Header.{Header}
-use Rattle.rlp.specs.declared.Header.TheVariants.{Wrong, Cut, Whole}
 use Rattle.rlp.proofs.Cases.{long_none, long_zero, long_missing, long_counted, long_small, long_whole, first_none, first_low, first_short, first_long}
 use Rattle.rlp.proofs.Written.{be_fewest, fewest_head, fewest_be, head_append, head_length, header_short, header_long}
 

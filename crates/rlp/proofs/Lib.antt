@@ -2,4 +2,3 @@ pub mod Cases
 pub mod Written
 pub mod Headers
 pub mod Contents
-pub mod Answers

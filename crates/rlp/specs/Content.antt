@@ -4,8 +4,6 @@ use Rattle.std.specs.Prelude.{ℕ, ◌+◌, ◌-◌, cond, List, [], ◌∷◌, 
 use Rattle.refusal.specs.Outcome.{Outcome, given, refused}
 use Rattle.octets.specs.Bytes.{be}
 use Rattle.rlp.specs.declared.Payload.{Payload}
-use Rattle.rlp.specs.declared.Header.{Header}
-use Rattle.rlp.specs.declared.Header.TheVariants.{Wrong, Cut, Whole}
 
 -- a payload of `len` bytes that starts at index `start`
 abbrev pub place : ℕ → ℕ → Payload
@@ -13,6 +11,16 @@ place start len = record { start = start; len = len }
 
 -- What content begins with: `Wrong`, no header of a list in the shortest form; `Cut`, one that ends before it is whole; or `Whole`, with the
 -- place of its payload.
+pub data Header : Type 0 where
+  Wrong : Header
+  Cut : Header
+  Whole : Payload → Header
+
+-- what the header alone says of content: 9 where it is wrong, 16 where it is cut, else the payload's place
+abbrev pub begun : Header → Outcome Payload
+begun Wrong = refused 9
+begun Cut = refused 16
+begun (Whole p) = given p
 
 -- after a first byte that asks for them come k length bytes, heaviest first: cut where none is there; wrong where the first is zero; cut where
 -- some are missing; wrong where the length is not over 55

@@ -2,111 +2,86 @@
 #![tactic(auto)]
 
 ghost use Rattle.std.specs.Prelude.{◌≤◌, ◌≡◌, length, take};
+ghost use Rattle.refusal.specs.Outcome.{outcome_of};
 ghost use Rattle.octets.specs.Bytes.{be};
-ghost use Rattle.rlp.specs.Content.{long_header, header_in, filled, content_of};
-ghost use Rattle.rlp.specs.Answer.{examined_as};
+ghost use Rattle.rlp.specs.Content.{long_header, header_in, begun, filled, content_of};
 
 use refusal::Refusal;
+use std::cmp::Ordering;
 
 // Where a list's payload stands in its content.
-#[derive(Clone, Copy)]
+#[derive(Clone, Copy, PartialEq, Eq)]
 pub struct Payload {
     pub start: usize,
     pub len: usize,
 }
 
-// What content is: a list, with the place of its payload, or why not.
-#[derive(Clone, Copy)]
-pub enum Examined {
-    Accepted(Payload),
-    Refused(Refusal),
-}
-
-// What content begins with: no header of a list in the shortest form; one that ends before it is whole; one that gives its payload's place.
-#[derive(Clone, Copy)]
-enum Header {
-    Wrong,
-    Cut,
-    Whole(Payload),
-}
-
 // The place of the payload in acceptable content, or whether the content ends early or is wrong.
-pub fn check(content: &[u8]) -> Examined
-    ensures { examined_as result ≡ content_of content.now }
+pub fn check(content: &[u8]) -> Result<Payload, Refusal>
+    ensures { outcome_of result ≡ content_of content.now }
 {
-    let header = header_in(content);
-    match header {
-        Header::Wrong => Examined::Refused(Refusal::Content),
-        Header::Cut => Examined::Refused(Refusal::ContentEndsEarly),
-        Header::Whole(payload) => filling(payload, content.len() - payload.start),
-    }
+    let payload = header_in(content)?;
+    filling(payload, content.len() - payload.start)
 }
 
 // A whole header with n bytes behind it. The length is compared and never added to a position, so no sum wraps.
-fn filling(payload: Payload, n: usize) -> Examined
-    ensures { examined_as result ≡ filled payload n }
+fn filling(payload: Payload, n: usize) -> Result<Payload, Refusal>
+    ensures { outcome_of result ≡ filled payload n }
 {
-    if n < payload.len {
-        return Examined::Refused(Refusal::ContentEndsEarly);
+    match n.cmp(&payload.len) {
+        Ordering::Less => Err(Refusal::ContentEndsEarly),
+        Ordering::Greater => Err(Refusal::Content),
+        Ordering::Equal => Ok(payload),
     }
-    if payload.len < n {
-        return Examined::Refused(Refusal::Content);
-    }
-    Examined::Accepted(payload)
 }
 
-// The header that the content begins with.
-fn header_in(content: &[u8]) -> Header
-    ensures { result ≡ header_in content.now }
+// The payload's place by the header that the content begins with: content with no header of a list in the shortest form is wrong, and a header
+// that is not whole ends early.
+#[tactic(auto, unfolding(crate::specs::Content::header_in))]
+fn header_in(content: &[u8]) -> Result<Payload, Refusal>
+    ensures { outcome_of result ≡ begun (header_in content.now) }
 {
-    if content.len() == 0 {
-        return Header::Wrong;
+    let Some((first, rest)) = content.split_first() else {
+        return Err(Refusal::Content);
+    };
+    if *first < 192 {
+        return Err(Refusal::Content);
     }
-    let first = content[0];
-    if first < 192 {
-        return Header::Wrong;
-    }
-    if first <= 247 {
-        return Header::Whole(Payload {
+    if *first <= 247 {
+        return Ok(Payload {
             start: 1,
-            len: (first - 192) as usize,
+            len: usize::from(*first - 192),
         });
     }
-    long_header(&content[1..], (first - 247) as usize)
+    long_header(rest, usize::from(*first - 247))
 }
 
 // A header whose first byte asks for k length bytes, with what comes after that byte.
-fn long_header(rest: &[u8], k: usize) -> Header
+#[tactic(auto, unfolding(crate::specs::Content::long_header))]
+fn long_header(rest: &[u8], k: usize) -> Result<Payload, Refusal>
     requires { k ≤ 8 }
-    ensures { result ≡ long_header k rest.now }
+    ensures { outcome_of result ≡ begun (long_header k rest.now) }
 {
-    if rest.len() == 0 {
-        return Header::Cut;
-    }
-    if rest[0] == 0 {
-        return Header::Wrong;
+    let heaviest = rest.first().ok_or(Refusal::ContentEndsEarly)?;
+    if *heaviest == 0 {
+        return Err(Refusal::Content);
     }
     if rest.len() < k {
-        return Header::Cut;
+        return Err(Refusal::ContentEndsEarly);
     }
-    let n = number(rest, k);
-    if n <= 55 {
-        return Header::Wrong;
+    let len = number(&rest[..k]);
+    if len <= 55 {
+        return Err(Refusal::Content);
     }
-    Header::Whole(Payload {
-        start: 1 + k,
-        len: n,
-    })
+    Ok(Payload { start: 1 + k, len })
 }
 
-// The number that the first k bytes stand for, heaviest first.
-fn number(s: &[u8], k: usize) -> usize
-    requires { (k ≤ 8) × (k ≤ length s.now) }
-    ensures { result ≡ be (take k s.now) }
+// The number that at most eight bytes stand for, heaviest first.
+fn number(s: &[u8]) -> usize
+    requires { length s.now ≤ 8 }
+    ensures { result ≡ be s.now }
 {
-    let mut n = 0usize;
-    for i in 0..k {
-        n = n * 256 + s[i] as usize;
-    }
-    n
+    let mut eight = [0u8; 8];
+    eight[8 - s.len()..].copy_from_slice(s);
+    u64::from_be_bytes(eight) as usize
 }

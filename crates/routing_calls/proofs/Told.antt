@@ -1,7 +1,7 @@
 -- What a table that keeps its rules gives, and what its survey tells of an id: each field of it. Assumes nothing.
 use Prim.Native.Nat.{ℕ, zero, suc, ◌<◌, ◌≤◌}
 use native.Mathlib.Omega.{arith}
-use mathlib.Core.Path.{◌≡◌, refl, sym, ap, subst, ◌∙◌}
+use mathlib.Core.Path.{◌≡◌, refl, ap, subst, ◌∙◌}
 use mathlib.Core.Bool.{true}
 use mathlib.Core.List.Memᴰ
 use mathlib.Core.List.{List, [], ◌∷◌}
@@ -9,17 +9,20 @@ use lib.Dec.{eqb}
 use lib.ListN.{length, get_or, length-map}
 use Rattle.octets.specs.Equal.{same_bytes}
 use Rattle.distance.specs.Distance.{log_distance_of}
-use Rattle.routing_table.specs.View.{view, no_contact, no_entry, entry_id, contact_id, entry_ids, replacement_ids, entry_logs, replacement_logs}
-use Rattle.routing_table.specs.Places.{first_place, last_place, count_of}
+use Rattle.routing_table.specs.View.{view, no_contact, no_entry, entry_id, contact_id, entry_ids, replacement_ids, replacement_logs}
+use Rattle.routing_table.specs.Places.{first_of, last_of}
 use Rattle.routing_table.specs.Good.{good}
 use Rattle.routing_table.specs.Rules.{◌among◌}
-use Rattle.routing_table.specs.Survey.{survey_of}
+use Rattle.routing_table.specs.Survey.{Sized, survey_of}
 use Rattle.routing_table.specs.declared.Entry.{Entry}
 use Rattle.routing_table.specs.declared.Facts.{Facts}
 use Rattle.routing_table.specs.declared.RoutingTable.{RoutingTable}
+use Rattle.std.specs.Prelude.{Option, Some}
+use Rattle.routing_calls.specs.Helpers.{Told}
+use Rattle.routing_table.proofs.Placed.{first_below, last_below}
 use Rattle.routing_table.proofs.Firsts.{length_firsts, get_firsts, length_of_firsts}
 use Rattle.routing_table.proofs.Keeps.{good_keeps}
-use Rattle.routing_table.proofs.Looked.{survey_good, survey_facts}
+use Rattle.routing_table.proofs.Looked.{survey_good, survey_facts, first_some, last_some}
 
 -- an element that is there is among them
 get_among : {A : Type 0} (l : List A) (i : ℕ) (z : A) → i < length l → get_or l i z among l
@@ -49,22 +52,13 @@ module _ (t : RoutingTable) where
         subst (λ (e : Entry). e.failures ≤ 3) (get_firsts no_entry t.count t.entries at h)
         ((good_keeps (view t) g).failures _ (get_among (view t).entries at no_entry (omega (arith, entry_count))))
 
--- what a survey of a good table tells
-pub record Told (t : RoutingTable) (id : List ℕ) (s : Facts) : Type 0 where
-  pub kept : good (view t) ≡ true
-  pub own : s.own ≡ same_bytes t.own id
-  pub entry : s.entry ≡ first_place same_bytes id (entry_ids (view t))
-  pub replacement : s.replacement ≡ first_place same_bytes id (replacement_ids (view t))
-  pub entries : s.entries ≡ count_of (log_distance_of t.own id) (entry_logs (view t))
-  pub replacements : s.replacements ≡ count_of (log_distance_of t.own id) (replacement_logs (view t))
-  pub oldest : s.oldest ≡ first_place eqb (log_distance_of t.own id) (replacement_logs (view t))
-  pub newest : s.newest ≡ last_place eqb (log_distance_of t.own id) (replacement_logs (view t))
-
-pub told_facts : (t : RoutingTable) (id : List ℕ) (s : Facts) → s ≡ survey_of (view t) id → s.good ≡ true → Told t id s
-told_facts t id s e g =
-    let f = survey_facts (view t) id s e g in
+-- what a survey tells where it tells something
+pub told_facts : (t : RoutingTable) (id : List ℕ) (r : Option Facts) {s : Facts} → Sized t → r ≡ survey_of (view t) id → r ≡ Some s → Told t id s
+told_facts t id r z e i =
+    let f = survey_facts (view t) id r e i in
     record {
-      kept = sym (survey_good (view t) id s e) ∙ g;
+      sized = z;
+      kept = survey_good (view t) id r e i;
       own = ap (λ (x : Facts). x.own) f;
       entry = ap (λ (x : Facts). x.entry) f;
       replacement = ap (λ (x : Facts). x.replacement) f;
@@ -83,3 +77,24 @@ module _ (t : RoutingTable) where
 
   pub replacement_logs_lem : length (replacement_logs (view t)) ≡ t.waiting
   replacement_logs_lem = length-map (replacement_ids (view t)) (log_distance_of t.own) ∙ replacement_ids_lem
+
+  -- a place that was found among them is in use
+  pub entry_used : (id : List ℕ) (r : Option ℕ) {at : ℕ} → r ≡ first_of same_bytes id (entry_ids (view t)) → r ≡ Some at → at < t.count
+  entry_used id r e i =
+      let p = first_some same_bytes id (entry_ids (view t)) r e i in
+      omega (arith, entry_ids_lem, first_below same_bytes id (entry_ids (view t)) p.0)
+
+  pub replacement_used : (id : List ℕ) (r : Option ℕ) {at : ℕ} → r ≡ first_of same_bytes id (replacement_ids (view t)) → r ≡ Some at → at < t.waiting
+  replacement_used id r e i =
+      let p = first_some same_bytes id (replacement_ids (view t)) r e i in
+      omega (arith, replacement_ids_lem, first_below same_bytes id (replacement_ids (view t)) p.0)
+
+  pub oldest_used : (d : ℕ) (r : Option ℕ) {at : ℕ} → r ≡ first_of eqb d (replacement_logs (view t)) → r ≡ Some at → at < t.waiting
+  oldest_used d r e i =
+      let p = first_some eqb d (replacement_logs (view t)) r e i in
+      omega (arith, replacement_logs_lem, first_below eqb d (replacement_logs (view t)) p.0)
+
+  pub newest_used : (d : ℕ) (r : Option ℕ) {at : ℕ} → r ≡ last_of eqb d (replacement_logs (view t)) → r ≡ Some at → at < t.waiting
+  newest_used d r e i =
+      let p = last_some eqb d (replacement_logs (view t)) r e i in
+      omega (arith, replacement_logs_lem, last_below eqb d (replacement_logs (view t)) p.0)

@@ -13,12 +13,8 @@ use Rattle.routing_table.specs.declared.RoutingTable.{RoutingTable}
 use Rattle.routing_table.proofs.Firsts.{firsts_set, firsts_more}
 use Rattle.routing_calls.specs.Change.{with_entries, with_replacements}
 use Rattle.routing_calls.specs.Arrays.{closed, entry_put, entry_added, replacement_added, replacement_out}
+use Rattle.routing_table.specs.Survey.{Sized}
 use Rattle.routing_calls.proofs.Closed.{length_closed, closed_firsts}
-
--- the arrays have their sizes
-pub record Sized (t : RoutingTable) : Type 0 where
-  pub entries : length t.entries ≡ 128
-  pub replacements : length t.replacements ≡ 16
 
 -- a store right behind the first n, n counted as the code does
 more : {A : Type 0} (other : A) (n : ℕ) (l : List A) (a : A) → n < length l → firsts other (n + 1) (set l n a) ≡ firsts other n l ++ a ∷ []

@@ -1,9 +1,11 @@
 -- What the helpers do to a table's arrays, unused places included.
-use Rattle.std.specs.Prelude.{ℕ, suc, ◌+◌, ◌-◌, ◌≡◌, List, drop, set}
+use Rattle.std.specs.Prelude.{ℕ, suc, ◌+◌, ◌-◌, ◌≡◌, List, drop, get_or, set}
 use Rattle.std.proofs.Math.Seq.{paste}
+use Rattle.routing_table.specs.View.{no_contact}
 use Rattle.routing_table.specs.declared.Contact.{Contact}
 use Rattle.routing_table.specs.declared.Entry.{Entry}
 use Rattle.routing_table.specs.declared.RoutingTable.{RoutingTable}
+use Rattle.routing_calls.specs.Change.{entry_of}
 
 -- so many entries, from this array
 abbrev pub table_entries : RoutingTable → ℕ → List Entry → RoutingTable
@@ -16,10 +18,6 @@ table_replacements t waiting cs = record { own = t.own; count = t.count; entries
 -- an entry at a place
 abbrev pub entry_put : RoutingTable → ℕ → Entry → RoutingTable
 entry_put t at e = table_entries t t.count (set t.entries at e)
-
--- a table that is another one with an entry at a place
-pub record Put (t : RoutingTable) (at : ℕ) (e : Entry) (r : RoutingTable) : Type 0 where
-  pub is : r ≡ entry_put t at e
 
 -- an entry more
 abbrev pub entry_added : RoutingTable → Entry → RoutingTable
@@ -36,3 +34,11 @@ closed at last l = paste l at (drop (suc at) l) (last - at)
 -- a replacement less
 abbrev pub replacement_out : RoutingTable → ℕ → RoutingTable
 replacement_out t at = table_replacements t (t.waiting - 1) (closed at (t.waiting - 1) t.replacements)
+
+-- a table that is another one with a contact as the most recent replacement, in place of the one at a place
+pub record Latest (t : RoutingTable) (at : ℕ) (c : Contact) (r : RoutingTable) : Type 0 where
+  pub is : r ≡ replacement_added (replacement_out t at) c
+
+-- the replacement at one place as the entry at another
+abbrev pub exchanged : RoutingTable → ℕ → ℕ → RoutingTable
+exchanged t at from = entry_put (replacement_out t from) at (entry_of (get_or t.replacements from no_contact))

@@ -1,33 +1,45 @@
--- What the private helpers of `seen` and `failed` promise; no public contract uses it.
-use Rattle.std.specs.Prelude.{ℕ, ◌≡◌, eqb, get_or}
-use Rattle.routing_table.specs.View.{view, no_entry, replacement_logs}
-use Rattle.routing_table.specs.Places.{last_place}
-use Rattle.routing_table.specs.declared.Contact.{Contact}
+-- What the private helpers of `seen` and `failed` ask and promise; no public contract uses it.
+use Rattle.std.specs.Prelude.{ℕ, ◌<◌, ◌≡◌, true, false, List, eqb, get_or, Option, Some, Result, Ok, Err}
+use Rattle.refusal.specs.declared.Refusal.{Refusal}
+use Rattle.refusal.specs.declared.Refusal.TheVariants.{BadState}
+use Rattle.octets.specs.Equal.{same_bytes}
+use Rattle.distance.specs.Distance.{log_distance_of}
+use Rattle.routing_table.specs.View.{view, no_entry, entry_ids, replacement_ids, entry_logs, replacement_logs}
+use Rattle.routing_table.specs.Places.{first_of, last_of, count_of}
+use Rattle.routing_table.specs.Good.{good}
+use Rattle.routing_table.specs.Survey.{Sized}
+use Rattle.routing_table.specs.declared.Facts.{Facts}
 use Rattle.routing_table.specs.declared.RoutingTable.{RoutingTable}
-use Rattle.routing_calls.specs.Change.{entry_of}
-use Rattle.routing_calls.specs.Arrays.{entry_put, replacement_out}
-use Rattle.routing_calls.specs.Seen.{latest_for}
-use Rattle.routing_calls.specs.SeenFor as seen
-use Rattle.routing_calls.specs.Failed.{Failing, fail_at_of}
-use Rattle.routing_calls.specs.FailedFor as failed
-use Rattle.routing_calls.specs.declared.SeenAnswer.{SeenAnswer}
-use Rattle.routing_calls.specs.declared.Failure.TheVariants.{Replaced}
-use Rattle.routing_calls.specs.declared.FailedAnswer.{FailedAnswer}
+use Rattle.routing_calls.specs.Failed.{fail_at_of}
+use Rattle.routing_calls.specs.FailedFor.{given_by, meaning_of}
+use Rattle.routing_calls.specs.declared.Failure.{Failure}
 
--- an answer by which the contact is the most recent replacement, in place of the one at a place
-pub record Latest (t : RoutingTable) (at : ℕ) (c : Contact) (r : SeenAnswer) : Type 0 where
-  pub is : seen.meaning_of r ≡ seen.given_by t (latest_for (view t) at c)
+-- what a survey of a good table tells
+pub record Told (t : RoutingTable) (id : List ℕ) (s : Facts) : Type 0 where
+  pub sized : Sized t
+  pub kept : good (view t) ≡ true
+  pub own : s.own ≡ same_bytes t.own id
+  pub entry : s.entry ≡ first_of same_bytes id (entry_ids (view t))
+  pub replacement : s.replacement ≡ first_of same_bytes id (replacement_ids (view t))
+  pub entries : s.entries ≡ count_of (log_distance_of t.own id) (entry_logs (view t))
+  pub replacements : s.replacements ≡ count_of (log_distance_of t.own id) (replacement_logs (view t))
+  pub oldest : s.oldest ≡ first_of eqb (log_distance_of t.own id) (replacement_logs (view t))
+  pub newest : s.newest ≡ last_of eqb (log_distance_of t.own id) (replacement_logs (view t))
 
--- an answer that stands for an outcome, in itself and in the id beside it
-pub record Answers (t : RoutingTable) (r : FailedAnswer) (o : Failing) : Type 0 where
-  pub value : failed.meaning_of r ≡ failed.given_by t o
-  pub by : r.by ≡ failed.by_or0 o
+-- what a survey comes to
+abbrev pub Surveyed : RoutingTable → List ℕ → Result Facts Refusal → Type 0
+Surveyed t id (Ok s) = Told t id s
+Surveyed t id (Err why) = (why ≡ BadState) × (good (view t) ≡ false)
 
--- an answer to a failure of the entry at a place, for every log distance whose most recently seen replacement stands at `newest`
-abbrev pub FailedAt : RoutingTable → ℕ → ℕ → FailedAnswer → Type 0
-FailedAt t at newest r =
-    (d : ℕ) → newest ≡ last_place eqb d (replacement_logs (view t)) → Answers t r (fail_at_of (view t) at d (get_or t.entries at no_entry).failures)
+-- an entry at a place of a good table, and the place of one of its replacements, if any
+pub record FailsAt (t : RoutingTable) (at : ℕ) (newest : Option ℕ) : Type 0 where
+  pub kept : good (view t) ≡ true
+  pub sized : Sized t
+  pub used : at < t.count
+  pub recent : (from : ℕ) → newest ≡ Some from → from < t.waiting
 
--- the answer where a contact, the replacement at one place, becomes the entry at another
-abbrev pub exchanged : RoutingTable → ℕ → ℕ → Contact → FailedAnswer
-exchanged t at from c = record { failure = Replaced; by = c.id; table = entry_put (replacement_out t from) at (entry_of c) }
+-- what a failure of it comes to, for every log distance whose most recently seen replacement stands at `newest`
+abbrev pub FailedAt : RoutingTable → ℕ → Option ℕ → Failure → RoutingTable → Type 0
+FailedAt t at newest r u =
+    (d : ℕ) → newest ≡ last_of eqb d (replacement_logs (view t))
+    → meaning_of (Ok r) u ≡ given_by t (fail_at_of (view t) at d (get_or t.entries at no_entry).failures)

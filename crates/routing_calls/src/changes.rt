@@ -1,64 +1,36 @@
-// The changes of a table, on its arrays.
+// What both calls do first, and the changes of a table's replacements.
 ghost use Rattle.std.specs.Prelude.{◌<◌, ◌≤◌, ◌≡◌};
-ghost use Rattle.routing_calls.specs.Change.{entry_of};
-ghost use Rattle.routing_calls.specs.Arrays.{Put, entry_added, replacement_added, replacement_out};
+ghost use Rattle.routing_calls.specs.Arrays.{Latest, replacement_out};
+ghost use Rattle.routing_calls.specs.Helpers.{Surveyed};
 
-use routing_table::{Contact, Entry, RoutingTable};
+use refusal::Refusal;
+use routing_table::{Contact, Facts, RoutingTable};
 
-// The table with an entry at a place.
-pub(crate) fn entry_put(
-    table: RoutingTable,
-    at: usize,
-    contact: Contact,
-    failures: u8,
-) -> RoutingTable
-    requires { at < 128 }
-    ensures { Put table at (record { contact = contact; failures = failures }) result }
+// What the survey of a table that keeps its rules tells.
+pub(crate) fn surveyed(table: &RoutingTable, id: [u8; 32]) -> Result<Facts, Refusal>
+    ensures { Surveyed table.now id result }
 {
-    let mut next = table;
-    next.entries[at] = Entry { contact, failures };
-    next
-}
-
-// The table with an entry more.
-pub(crate) fn entry_added(table: RoutingTable, contact: Contact) -> RoutingTable
-    requires { table.count < 128 }
-    ensures { result ≡ entry_added table (entry_of contact) }
-{
-    let end = table.count;
-    let mut next = table;
-    next.entries[end] = Entry {
-        contact,
-        failures: 0,
-    };
-    next.count = end + 1;
-    next
-}
-
-// The table with a replacement more, the most recent.
-pub(crate) fn replacement_added(table: RoutingTable, contact: Contact) -> RoutingTable
-    requires { table.waiting < 16 }
-    ensures { result ≡ replacement_added table contact }
-{
-    let end = table.waiting;
-    let mut next = table;
-    next.replacements[end] = contact;
-    next.waiting = end + 1;
-    next
-}
-
-// The table without the replacement at a place: those behind it move up by one.
-pub(crate) fn replacement_out(table: RoutingTable, at: usize) -> RoutingTable
-    requires { (at < table.waiting) × (table.waiting ≤ 16) }
-    ensures { result ≡ replacement_out table at }
-{
-    let last = table.waiting - 1;
-    let mut left = table.replacements;
-    for i in at..last {
-        left[i] = left[i + 1];
+    match table.survey(id) {
+        Some(told) => Ok(told),
+        None => Err(Refusal::BadState),
     }
-    let mut next = table;
-    next.waiting = last;
-    next.replacements = left;
-    next
+}
+
+// The contact becomes the most recent replacement, in place of the one at a place.
+pub(crate) fn latest(table: &mut RoutingTable, at: usize, contact: Contact)
+    requires { (at < table.old.waiting) × (table.old.waiting ≤ 16) }
+    ensures { Latest table.old at contact table.new }
+{
+    replacement_out(table, at);
+    table.replacements[table.waiting] = contact;
+    table.waiting += 1;
+}
+
+// Takes the replacement at a place out: those behind it move up by one.
+pub(crate) fn replacement_out(table: &mut RoutingTable, at: usize)
+    requires { (at < table.old.waiting) × (table.old.waiting ≤ 16) }
+    ensures { table.new ≡ replacement_out table.old at }
+{
+    table.replacements.copy_within(at + 1..table.waiting, at);
+    table.waiting -= 1;
 }

@@ -1,74 +1,56 @@
 // A node failed to answer.
-ghost use Rattle.std.specs.Prelude.{◌<◌, ◌≤◌, ◌≡◌, get_or, replicate};
-ghost use Rattle.routing_table.specs.View.{view, no_contact, no_entry};
-ghost use Rattle.routing_calls.specs.Failed.{failed_of};
-ghost use Rattle.routing_calls.specs.FailedFor.{failed_for, meaning_of, by_or0};
-ghost use Rattle.routing_calls.specs.Helpers.{FailedAt, exchanged};
-ghost use Rattle.routing_calls.specs.declared.Failure.{Failure};
+ghost use Rattle.std.specs.Prelude.{◌<◌, ◌≤◌, ◌≡◌, get_or};
+ghost use Rattle.routing_table.specs.View.{no_contact, no_entry};
+ghost use Rattle.routing_calls.specs.FailedFor.{failed_for, meaning_of};
+ghost use Rattle.routing_calls.specs.Helpers.{FailsAt, FailedAt};
+ghost use Rattle.routing_calls.specs.Arrays.{exchanged};
 
-use crate::{FailedAnswer, Failure, changes};
+use crate::{Failure, changes};
 use refusal::Refusal;
-use routing_table::{FAILURES, RoutingTable};
+use routing_table::{Entry, FAILURES, RoutingTable};
 
 // Takes a failure of any id: the entry's count rises; at three it gives way to a replacement, or is flagged.
-pub fn failed(table: RoutingTable, id: [u8; 32]) -> FailedAnswer
-    ensures result_value { meaning_of result ≡ failed_for table id }
-    ensures by_value { result.by ≡ by_or0 (failed_of (view table) id) }
+pub fn failed(table: &mut RoutingTable, id: [u8; 32]) -> Result<Failure, Refusal>
+    ensures { meaning_of result table.new ≡ failed_for table.old id }
 {
-    let told = routing_table::survey(table, id);
-    if !told.good {
-        return kept(table, Failure::Refused(Refusal::BadState));
-    }
+    let told = changes::surveyed(table, id)?;
     if told.own {
-        return kept(table, Failure::Refused(Refusal::OwnId));
+        return Err(Refusal::OwnId);
     }
-    if table.count <= told.entry {
-        return kept(table, Failure::Refused(Refusal::NoEntry));
-    }
-    failing(table, told.entry, told.newest)
+    let Some(at) = told.entry else {
+        return Err(Refusal::NoEntry);
+    };
+    Ok(failing(table, at, told.newest))
 }
 
 // The entry at a place fails; `newest` is the place of the most recently seen replacement of its log distance.
-fn failing(table: RoutingTable, at: usize, newest: usize) -> FailedAnswer
-    requires { (at < table.count) × (table.count ≤ 128) × (table.waiting ≤ 16) × ((get_or table.entries at no_entry).failures ≤ 3) }
-    ensures { FailedAt table at newest result }
+fn failing(table: &mut RoutingTable, at: usize, newest: Option<usize>) -> Failure
+    requires { FailsAt table.old at newest }
+    ensures { FailedAt table.old at newest result table.new }
 {
-    let entry = table.entries[at];
-    let n = entry.failures + 1;
+    let n = table.entries[at].failures + 1;
     if n < FAILURES {
-        return kept(
-            changes::entry_put(table, at, entry.contact, n),
-            Failure::Counted(n),
-        );
+        table.entries[at].failures = n;
+        return Failure::Counted(n);
     }
-    if table.waiting <= newest {
-        return kept(
-            changes::entry_put(table, at, entry.contact, FAILURES),
-            Failure::Flagged,
-        );
-    }
-    promoted(table, at, newest)
+    let Some(from) = newest else {
+        table.entries[at].failures = FAILURES;
+        return Failure::Flagged;
+    };
+    Failure::Replaced(promoted(table, at, from))
 }
 
-// The replacement at a place becomes the entry at another.
-fn promoted(table: RoutingTable, at: usize, from: usize) -> FailedAnswer
-    requires { (at < 128) × (from < table.waiting) × (table.waiting ≤ 16) }
-    ensures { result ≡ exchanged table at from (get_or table.replacements from no_contact) }
+// The replacement at a place becomes the entry at another; answers its id.
+fn promoted(table: &mut RoutingTable, at: usize, from: usize) -> [u8; 32]
+    requires { (at < 128) × (from < table.old.waiting) × (table.old.waiting ≤ 16) }
+    ensures by { result ≡ (get_or table.old.replacements from no_contact).id }
+    ensures after { table.new ≡ exchanged table.old at from }
 {
     let contact = table.replacements[from];
-    let fewer = changes::replacement_out(table, from);
-    let by = contact.id;
-    FailedAnswer {
-        failure: Failure::Replaced,
-        by,
-        table: changes::entry_put(fewer, at, contact, 0),
-    }
-}
-
-// An answer that names no replacement.
-fn kept(table: RoutingTable, failure: Failure) -> FailedAnswer
-    ensures { result ≡ record { failure = failure; by = replicate 32 0; table = table } }
-{
-    let by = [0u8; 32];
-    FailedAnswer { failure, by, table }
+    changes::replacement_out(table, from);
+    table.entries[at] = Entry {
+        contact,
+        failures: 0,
+    };
+    contact.id
 }

@@ -1,108 +1,74 @@
 // A node was seen.
-ghost use Rattle.std.specs.Prelude.{◌<◌, ◌≤◌, ◌≡◌, true};
+ghost use Rattle.std.specs.Prelude.{◌≡◌};
 ghost use Rattle.distance.specs.Distance.{log_distance_of};
 ghost use Rattle.routing_table.specs.View.{view};
-ghost use Rattle.routing_table.specs.Survey.{survey_of};
 ghost use Rattle.routing_calls.specs.Seen.{newcomer_of, wait_of};
 ghost use Rattle.routing_calls.specs.SeenFor.{given_by, seen_for, meaning_of};
-ghost use Rattle.routing_calls.specs.Helpers.{Latest};
-ghost use Rattle.routing_calls.specs.declared.Standing.{Standing};
+ghost use Rattle.routing_calls.specs.Helpers.{Told};
 
-use crate::{SeenAnswer, Standing, changes};
+use crate::{Standing, changes};
 use refusal::Refusal;
 use routing_table::{
-    Contact, ENTRIES, ENTRIES_EACH, Facts, REPLACEMENTS, REPLACEMENTS_EACH, RoutingTable,
+    Contact, ENTRIES, ENTRIES_EACH, Entry, Facts, REPLACEMENTS, REPLACEMENTS_EACH, RoutingTable,
 };
 
 // Takes a sighting of any contact: an entry or a replacement gets all its fields anew, a newcomer becomes one where there is room.
-#[tactic(auto, using(crate::proofs::Sightings::seen_own))]
-pub fn seen(table: RoutingTable, contact: Contact) -> SeenAnswer
-    ensures { meaning_of result ≡ seen_for table contact }
+pub fn seen(table: &mut RoutingTable, contact: Contact) -> Result<Standing, Refusal>
+    ensures { meaning_of result table.new ≡ seen_for table.old contact }
 {
-    let id = contact.id;
-    let told = routing_table::survey(table, id);
-    if !told.good {
-        return refused(table, Refusal::BadState);
-    }
+    let told = changes::surveyed(table, contact.id)?;
     if !routing_table::record_fits(contact.len) {
-        return refused(table, Refusal::ItemRule);
+        return Err(Refusal::ItemRule);
     }
     if told.own {
-        return refused(table, Refusal::OwnId);
+        return Err(Refusal::OwnId);
     }
-    if told.entry < table.count {
-        return entry(changes::entry_put(table, told.entry, contact, 0));
+    if let Some(at) = told.entry {
+        table.entries[at] = Entry {
+            contact,
+            failures: 0,
+        };
+        return Ok(Standing::Entry);
     }
-    if told.replacement < table.waiting {
-        return latest(table, told.replacement, contact);
+    if let Some(place) = told.replacement {
+        changes::latest(table, place, contact);
+        return Ok(Standing::Replacement);
     }
     newcomer(table, contact, told)
 }
 
 // A newcomer becomes an entry where its log distance has room.
-#[tactic(auto, using(crate::proofs::Sightings::newcomer_waits, crate::proofs::Sightings::newcomer_full))]
-fn newcomer(table: RoutingTable, contact: Contact, told: Facts) -> SeenAnswer
-    requires good_value { told.good ≡ true }
-    requires told_value { told ≡ survey_of (view table) contact.id }
-    ensures { meaning_of result ≡ given_by table (newcomer_of (view table) contact (log_distance_of table.own contact.id)) }
+fn newcomer(table: &mut RoutingTable, contact: Contact, told: Facts) -> Result<Standing, Refusal>
+    requires { Told table.old contact.id told }
+    ensures { meaning_of result table.new ≡ given_by table.old (newcomer_of (view table.old) contact (log_distance_of table.old.own contact.id)) }
 {
     if ENTRIES_EACH <= told.entries {
         return waits(table, contact, told);
     }
     if ENTRIES <= table.count {
-        return refused(table, Refusal::TableFull);
+        return Err(Refusal::TableFull);
     }
-    entry(changes::entry_added(table, contact))
+    table.entries[table.count] = Entry {
+        contact,
+        failures: 0,
+    };
+    table.count += 1;
+    Ok(Standing::Entry)
 }
 
 // A newcomer to a full log distance becomes a replacement.
-fn waits(table: RoutingTable, contact: Contact, told: Facts) -> SeenAnswer
-    requires good_value { told.good ≡ true }
-    requires told_value { told ≡ survey_of (view table) contact.id }
-    ensures { meaning_of result ≡ given_by table (wait_of (view table) contact (log_distance_of table.own contact.id)) }
+fn waits(table: &mut RoutingTable, contact: Contact, told: Facts) -> Result<Standing, Refusal>
+    requires { Told table.old contact.id told }
+    ensures { meaning_of result table.new ≡ given_by table.old (wait_of (view table.old) contact (log_distance_of table.old.own contact.id)) }
 {
     if told.replacements < REPLACEMENTS_EACH && table.waiting < REPLACEMENTS {
-        return replacement(changes::replacement_added(table, contact));
+        table.replacements[table.waiting] = contact;
+        table.waiting += 1;
+        return Ok(Standing::Replacement);
     }
-    if told.oldest < table.waiting {
-        return latest(table, told.oldest, contact);
-    }
-    refused(table, Refusal::ReplacementsFull)
-}
-
-// The contact becomes the most recent replacement, in place of the one at a place.
-fn latest(table: RoutingTable, at: usize, contact: Contact) -> SeenAnswer
-    requires { (at < table.waiting) × (table.waiting ≤ 16) }
-    ensures { Latest table at contact result }
-{
-    let fewer = changes::replacement_out(table, at);
-    replacement(changes::replacement_added(fewer, contact))
-}
-
-// The node is an entry of the table.
-fn entry(table: RoutingTable) -> SeenAnswer
-    ensures { result ≡ record { standing = Standing.Entry; table = table } }
-{
-    SeenAnswer {
-        standing: Standing::Entry,
-        table,
-    }
-}
-
-// The node is a replacement of the table.
-fn replacement(table: RoutingTable) -> SeenAnswer
-    ensures { result ≡ record { standing = Standing.Replacement; table = table } }
-{
-    SeenAnswer {
-        standing: Standing::Replacement,
-        table,
-    }
-}
-
-// The table as it was.
-fn refused(table: RoutingTable, why: Refusal) -> SeenAnswer
-    ensures { result ≡ record { standing = Standing.Refused why; table = table } }
-{
-    let standing = Standing::Refused(why);
-    SeenAnswer { standing, table }
+    let Some(at) = told.oldest else {
+        return Err(Refusal::ReplacementsFull);
+    };
+    changes::latest(table, at, contact);
+    Ok(Standing::Replacement)
 }

@@ -4,6 +4,8 @@ use Prim.Native.Nat.{ℕ}
 use mathlib.Core.Path.{◌≡◌, refl, sym, ap, ap₂, subst, ◌∙◌}
 use mathlib.Core.Bool.{true}
 use mathlib.Core.List.{List, ◌∷◌}
+use Rattle.std.specs.Prelude.{Result, Ok, Err}
+use Rattle.refusal.specs.declared.Refusal.{Refusal}
 use Rattle.routing_table.specs.View.{View, view}
 use Rattle.routing_table.specs.Good.{good}
 use Rattle.routing_table.specs.declared.RoutingTable.{RoutingTable}
@@ -13,7 +15,6 @@ use Rattle.routing_calls.specs.Failed as failing
 use Rattle.routing_calls.specs.FailedFor as fails
 use Rattle.routing_calls.specs.declared.Standing.{Standing}
 use Rattle.routing_calls.specs.declared.Failure.{Failure}
-use Rattle.routing_calls.specs.declared.FailedAnswer.{FailedAnswer}
 use Rattle.routing_runs.specs.Step.{Call, Answer, refused, entry, replacement, counted, flagged, replaced, after_seen, after_failed, step}
 use Rattle.routing_runs.specs.Story.{after, Told, story}
 use Rattle.routing_runs.specs.Answered as answered
@@ -31,10 +32,10 @@ seen_by t (seeing.refused says) = refl
 seen_by t (seeing.entry v) = refl
 seen_by t (seeing.replacement v) = refl
 
-seen_said : (t : RoutingTable) (s : Standing) → seen_does (sees.answered_by t s) ≡ (view t, seen_says s)
-seen_said t Standing.Entry = refl
-seen_said t Standing.Replacement = refl
-seen_said t (Standing.Refused why) = refl
+seen_said : (t : RoutingTable) (r : Result Standing Refusal) → seen_does (sees.meaning_of r t) ≡ (view t, seen_says r)
+seen_said t (Ok Standing.Entry) = refl
+seen_said t (Ok Standing.Replacement) = refl
+seen_said t (Err why) = refl
 
 -- a failure
 abbrev failed_does : fails.Given → View × Answer
@@ -49,18 +50,18 @@ failed_by t (failing.counted n v) = refl
 failed_by t (failing.flagged v) = refl
 failed_by t (failing.replaced by v) = refl
 
-failed_said : (r : FailedAnswer) (s : Failure) → failed_does (fails.answered_by r s) ≡ (view r.table, failed_says r.by s)
-failed_said r (Failure.Counted n) = refl
-failed_said r Failure.Flagged = refl
-failed_said r Failure.Replaced = refl
-failed_said r (Failure.Refused why) = refl
+failed_said : (t : RoutingTable) (r : Result Failure Refusal) → failed_does (fails.meaning_of r t) ≡ (view t, failed_says r)
+failed_said t (Ok (Failure.Counted n)) = refl
+failed_said t (Ok Failure.Flagged) = refl
+failed_said t (Ok (Failure.Replaced by)) = refl
+failed_said t (Err why) = refl
 
 -- a call that is answered as its contract says is a step: its view, and what it says
 pub answered_step : {t last : RoutingTable} {c : Call} {a : Answer} → Answered t c last a → step (view t) c ≡ (view last, a)
-answered_step {t} (answered.seeing {c = c} r e) =
-    seen_by t (seeing.seen_of (view t) c) ∙ ap seen_does (sym e) ∙ seen_said r.table r.standing
-answered_step {t} (answered.failing {id = id} r e) =
-    failed_by t (failing.failed_of (view t) id) ∙ ap failed_does (sym e) ∙ failed_said r r.failure
+answered_step {t} (answered.seeing {c = c} last r e) =
+    seen_by t (seeing.seen_of (view t) c) ∙ ap seen_does (sym e) ∙ seen_said last r
+answered_step {t} (answered.failing {id = id} last r e) =
+    failed_by t (failing.failed_of (view t) id) ∙ ap failed_does (sym e) ∙ failed_said last r
 
 -- the tables and what the calls were told follow the run
 pub answered_run : {own : List ℕ} {cs : List Call} {last : RoutingTable} {told : List Told} → Answers own cs last told

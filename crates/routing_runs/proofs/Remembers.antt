@@ -7,7 +7,6 @@ use mathlib.Core.List.Memᴰ.{not-nil}
 use mathlib.Core.List.{List, [], ◌∷◌}
 use Rattle.octets.specs.Equal.{holds, all_different}
 use Rattle.routing_table.specs.View.{fresh_of}
-use Rattle.routing_table.specs.Places.{every}
 use Rattle.routing_table.specs.Good.{good}
 use Rattle.routing_table.specs.Rules.{Rules}
 use Rattle.routing_table.proofs.Keeps.{good_rules}
@@ -24,7 +23,7 @@ use Rattle.routing_runs.proofs.Leaving.{entry_leaves_lem, replacement_leaves_lem
 
 -- a fresh table keeps the rules: the test computes
 good_fresh : (own : List ℕ) → good (fresh_of own) ≡ true
-unfolding good every all_different holds
+unfolding good all_different holds
 good_fresh own = refl
 
 module _ (own : List ℕ) where

@@ -13,24 +13,23 @@ use borrow.Author.Tests.{eqb-true, eq-eqb, ne_eqb, leb-true, le-leb, not-true}
 use Rattle.octets.specs.Equal.{same_bytes, holds, all_different}
 use Rattle.octets.proofs.Equal.{holds_member, member_holds}
 use Rattle.octets.proofs.Tests.{both, join}
-use Rattle.routing_table.specs.Places.{count_of, every}
+use Rattle.std.specs.List.{list_all}
+use Rattle.routing_table.specs.Places.{count_of}
 use Rattle.routing_table.specs.Good.{none_over}
 use Rattle.routing_table.specs.Rules.{◌among◌, Different}
 
 module _ {A : Type 0} (test : A → Bool) where
   -- what passes for each passes for one
-  pub every_one : {a : A} (l : List A) → every test l ≡ true → a among l → test a ≡ true
-  unfolding every
+  pub every_one : {a : A} (l : List A) → list_all test l ≡ true → a among l → test a ≡ true
   every_one [] e m = absurd (Memᴰ.not-nil m)
   every_one {a} (b ∷ l) e m =
-      let t = both (test b) (every test l) e in
+      let t = both (test b) (list_all test l) e in
       ⊎_elim (λ q. ap test q ∙ t.0) (every_one l t.1) (Memᴰ.cases_cons m)
 
   -- what passes for each one passes for all
-  pub one_every : (l : List A) → ((a : A) → a among l → test a ≡ true) → every test l ≡ true
-  unfolding every
+  pub one_every : (l : List A) → ((a : A) → a among l → test a ≡ true) → list_all test l ≡ true
   one_every [] f = refl
-  one_every (b ∷ l) f = join (test b) (every test l) (f b (here refl)) (one_every l (λ a m. f a (there m)))
+  one_every (b ∷ l) f = join (test b) (list_all test l) (f b (here refl)) (one_every l (λ a m. f a (there m)))
 
 -- a number stands nowhere in the empty list
 pub count_none : (d : ℕ) → count_of d [] ≡ 0

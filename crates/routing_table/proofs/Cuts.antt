@@ -8,12 +8,13 @@ use mathlib.Core.List.{List, ◌∷◌, ◌++◌, map-append}
 use lib.Dec.{eqb}
 use lib.ListN.{length, take, drop, length-append, length-map}
 use lib.Seq.{take-append_seam, drop-append_seam, take_all}
+use Rattle.std.specs.Prelude.{Some, None}
 use Rattle.octets.specs.Equal.{same_bytes}
 use Rattle.distance.specs.Distance.{log_distance_of}
 use Rattle.routing_table.specs.View.{View, entry_id, ids_of, logs_of, entry_ids, replacement_ids, entry_logs, replacement_logs}
-use Rattle.routing_table.specs.Places.{first_place, last_place, count_of}
+use Rattle.routing_table.specs.Places.{first_of, last_of, count_of}
 use Rattle.routing_table.specs.Good.{none_over, each_full}
-use Rattle.routing_table.specs.Survey.{facts_of, no_facts}
+use Rattle.routing_table.specs.Survey.{facts_of}
 use Rattle.routing_table.specs.declared.Facts.{Facts}
 
 -- the part before the middle, without the first, and the part from the middle on
@@ -65,7 +66,7 @@ module _ (v : View) (own id : List ℕ) (ids : List (List ℕ)) (logs : List ℕ
 
   -- the log distances break a rule
   pub misfit : fits (before logs middle) (behind logs middle) ≡ false
-      → no_facts ≡ cond (fits (entry_logs v) (replacement_logs v)) (facts_of v id (log_distance_of v.own id)) no_facts
+      → None ≡ cond (fits (entry_logs v) (replacement_logs v)) (Some (facts_of v id (log_distance_of v.own id))) None
   misfit e =
       let broken : fits (entry_logs v) (replacement_logs v) ≡ false = ap₂ fits (sym logs_are) (sym waiting_are) ∙ e in
       rw broken
@@ -73,17 +74,16 @@ module _ (v : View) (own id : List ℕ) (ids : List (List ℕ)) (logs : List ℕ
   -- they keep the rules, and d is the id's
   pub fitting : (d : ℕ) → d ≡ log_distance_of own id → fits (before logs middle) (behind logs middle) ≡ true → (f : Facts)
       → f ≡ record {
-        good = true;
         own = same_bytes own id;
-        entry = first_place same_bytes id (before ids middle);
-        replacement = first_place same_bytes id (behind ids middle);
+        entry = first_of same_bytes id (before ids middle);
+        replacement = first_of same_bytes id (behind ids middle);
         entries = count_of d (before logs middle);
         replacements = count_of d (behind logs middle);
-        oldest = first_place eqb d (behind logs middle);
-        newest = last_place eqb d (behind logs middle);
+        oldest = first_of eqb d (behind logs middle);
+        newest = last_of eqb d (behind logs middle);
       }
-      → f ≡ cond (fits (entry_logs v) (replacement_logs v)) (facts_of v id (log_distance_of v.own id)) no_facts
+      → Some f ≡ cond (fits (entry_logs v) (replacement_logs v)) (Some (facts_of v id (log_distance_of v.own id))) None
   fitting d far e f is =
       let kept : fits (entry_logs v) (replacement_logs v) ≡ true = ap₂ fits (sym logs_are) (sym waiting_are) ∙ e in
       let same : d ≡ log_distance_of v.own id = rw o at far in
-      rw kept (rw (logs_are, waiting_are, entries_are, replacements_are, same, o) at is)
+      rw kept (ap Some (rw (logs_are, waiting_are, entries_are, replacements_are, same, o) at is))

@@ -4,7 +4,7 @@ use Prim.Native.Nat.{ℕ, zero, suc, ◌<◌, ◌≤◌}
 use native.Mathlib.Omega.{arith}
 use mathlib.Core.Path.{◌≡◌, refl, sym, ap, ◌∙◌}
 use mathlib.Core.List.{List, [], ◌∷◌, ◌++◌, map}
-use lib.ListN.{length, get_or, take, set, length-set, length-map, get_or-map}
+use lib.ListN.{length, get_or, take, set, length-set, length-map}
 use lib.Seq.{take-set-lt, take-suc-set}
 use Rattle.routing_table.specs.View.{firsts}
 
@@ -46,6 +46,3 @@ module _ {A : Type 0} (other : A) where
   module _ {B : Type 0} (f : A → B) (n : ℕ) (l : List A) where
     pub length_of_firsts : length (map f (firsts other n l)) ≡ n
     length_of_firsts = length-map (firsts other n l) f ∙ length_firsts n l
-
-    pub get_of_firsts : (i : ℕ) → i < n → get_or (map f (firsts other n l)) i (f other) ≡ f (get_or l i other)
-    get_of_firsts i h = get_or-map f (firsts other n l) i other ∙ ap f (get_firsts n l i h)

@@ -12,7 +12,8 @@ use Rattle.octets.specs.Equal.{same_bytes, all_different}
 use Rattle.octets.proofs.Tests.{both, join}
 use Rattle.distance.specs.Distance.{log_distance_of}
 use Rattle.routing_table.specs.View.{View, contact_id, ids_of, entry_logs, replacement_ids, replacement_logs}
-use Rattle.routing_table.specs.Places.{count_of, every}
+use Rattle.std.specs.List.{list_all}
+use Rattle.routing_table.specs.Places.{count_of}
 use Rattle.routing_table.specs.Good.{none_over, each_full, sized, sound_entry, sound, good}
 use Rattle.routing_table.specs.Rules.{◌among◌, log_of, HasRecord, Rules}
 use Rattle.routing_table.specs.declared.Contact.{Contact}
@@ -70,7 +71,7 @@ module _ (v : View) where
       all_seven (leb (length v.entries) 128) (leb (length v.replacements) 16) (sound v)
       (all_different same_bytes (ids_of v)) (none_over 16 (entry_logs v)) (none_over 4 (replacement_logs v)) (each_full (entry_logs v) (replacement_logs v)) g in
       let each = none_over_lem 16 (entry_logs v) t.4 in
-      let s = both (every sound_entry v.entries) (every sized v.replacements) t.2 in
+      let s = both (list_all sound_entry v.entries) (list_all sized v.replacements) t.2 in
       record {
         entries_most = leb-true (length v.entries) 128 t.0;
         entries_each = each;

@@ -1,122 +1,94 @@
--- Passes over a list, one turn each: what is left at place i, by the element there and by what is left behind it. Over any element and
+-- What passes over a list find, in std's words: the first place, the last one, how often a number stands there. Over any element and
 -- any test. Assumes nothing.
-use Prim.Native.Nat.{ℕ, suc, ◌+◌, ◌<◌, ◌≤◌}
-use native.Mathlib.Numerals.{add-one}
+use Prim.Native.Nat.{ℕ, zero, suc, ◌<◌}
 use native.Mathlib.Omega.{arith}
-use mathlib.Core.Path.{◌≡◌, refl, sym, ap, ◌∙◌}
-use mathlib.Core.Bool.{Bool, true, false, not, cond, ◌&&◌, ◌||◌, true≢false}
+use mathlib.Core.Path.{◌≡◌, refl, sym, ap, fun_ext}
+use mathlib.Core.Bool.{Bool, true, false, not, cond, ◌&&◌, ◌||◌}
 use mathlib.Core.List.{List, [], ◌∷◌}
 use lib.Dec.{eqb}
-use lib.ListN.{length, get_or, drop, drop_of_length-le}
-use lib.Seq.{drop-cons}
-use Rattle.octets.specs.Equal.{holds}
-use Rattle.routing_table.specs.View.{firsts}
-use Rattle.routing_table.specs.Places.{first_place, last_place, count_of, every}
-use Rattle.routing_table.proofs.Firsts.{length_firsts, get_firsts}
+use lib.ListN.{length, get_or}
+use lib.Pointwise.{pointwise}
+use Rattle.std.specs.Prelude.{Option, Some, None, nat_eq, count_by}
+use Rattle.std.proofs.lemmas.List.Recursion.{is_count_by, or_from_places}
+use Rattle.octets.specs.Equal.{holds, same_bytes}
+use Rattle.octets.proofs.Equal.{same_pointwise}
+use Rattle.routing_table.specs.Places.{first_place, last_place, first_of, last_of, count_of}
 
--- what is left at a place of a list
-left_at : {A : Type 0} (none : A) (l : List A) (i : ℕ) → i < length l → drop i l ≡ get_or l i none ∷ drop (i + 1) l
-left_at none l i h = rw (add-one, drop-cons l i none)
+module _ {A : Type 0} (same : A → A → Bool) (a : A) where
+  -- where none is a, there is no last place
+  none_holds : (l : List A) (d : A) → ((k : ℕ) → k < length l → same a (get_or l k d) ≡ false) → holds same a l ≡ false
+  unfolding holds
+  none_holds l d f = or_from_places (holds same a) (same a) refl (λ x xs. refl) l d f
 
--- the first place
-module _ {A : Type 0} (same : A → A → Bool) (a none : A) (l : List A) (i : ℕ) where
-  abbrev at : A
-  at = get_or l i none
+  pub first_none_is : (l : List A) (d : A) → ((k : ℕ) → k < length l → same a (get_or l k d) ≡ false) → None ≡ first_of same a l
+  first_none_is l d f = rw (none_holds l d f)
 
-  pub first_here : i < length l → same a at ≡ true → first_place same a (drop i l) ≡ 0
-  unfolding first_place
-  first_here h e = ap (first_place same a) (left_at none l i h) ∙ rw e
+  -- a place that has a, with none before it, is the first
+  first_found : (l : List A) (d : A) (i : ℕ) → i < length l → same a (get_or l i d) ≡ true
+      → ((k : ℕ) → k < i → same a (get_or l k d) ≡ false) → (holds same a l ≡ true) × (first_place same a l ≡ i)
+  unfolding holds first_place
+  first_found [] d i h e f = absurd (omega arith)
+  first_found (b ∷ l) d zero h e f = (rw e, rw e)
+  first_found (b ∷ l) d (suc i) h e f =
+      let r = first_found l d i (omega arith) e (λ k m. f (suc k) (omega arith)) in
+      let other : same a b ≡ false = f zero (omega arith) in
+      (rw other r.0, rw other (ap suc r.1))
 
-  pub first_later : i < length l → same a at ≡ false → first_place same a (drop i l) ≡ suc (first_place same a (drop (i + 1) l))
-  unfolding first_place
-  first_later h e = ap (first_place same a) (left_at none l i h) ∙ rw e
+  pub first_is : (l : List A) (d : A) (i : ℕ) → i < length l → same a (get_or l i d) ≡ true
+      → ((k : ℕ) → k < i → same a (get_or l k d) ≡ false) → Some i ≡ first_of same a l
+  first_is l d i h e f =
+      let r = first_found l d i h e f in
+      rw (r.0, r.1)
 
-  pub first_end : length l ≤ i → first_place same a (drop i l) ≡ 0
-  unfolding first_place
-  first_end h = ap (first_place same a) (drop_of_length-le l h)
+  pub last_none_is : (l : List A) (d : A) → ((k : ℕ) → k < length l → same a (get_or l k d) ≡ false) → None ≡ last_of same a l
+  last_none_is l d f = rw (none_holds l d f)
 
--- the last place, where the last one met so far is `met`
-module _ {A : Type 0} (same : A → A → Bool) (a none : A) where
-  abbrev pub last_from : List A → ℕ → ℕ → ℕ
-  last_from l i met = cond (holds same a (drop i l)) (i + last_place same a (drop i l)) met
-
-  -- one that is nowhere is at the length
-  nowhere : (l : List A) → holds same a l ≡ false → last_place same a l ≡ length l
+  -- a place that has a, with none behind it, is the last
+  found : (l : List A) (d : A) (i : ℕ) → i < length l → same a (get_or l i d) ≡ true
+      → ((k : ℕ) → i < k → k < length l → same a (get_or l k d) ≡ false) → (holds same a l ≡ true) × (last_place same a l ≡ i)
   unfolding holds last_place
-  nowhere [] e = refl
-  nowhere (b ∷ l) e = go (same a b) e (nowhere l)
+  found [] d i h e f = absurd (omega arith)
+  found (b ∷ l) d zero h e f =
+      let none : holds same a l ≡ false = none_holds l d (λ k m. f (suc k) (omega arith) (omega arith)) in
+      (rw e, rw (e, none))
+  found (b ∷ l) d (suc i) h e f =
+      let r = found l d i (omega arith) e (λ k m n. f (suc k) (omega arith) (omega arith)) in
+      go (same a b) r.0 r.1
     where
-      go : (t : Bool) → (t || holds same a l) ≡ false → (holds same a l ≡ false → last_place same a l ≡ length l)
-          → cond (t && not (holds same a l)) 0 (suc (last_place same a l)) ≡ suc (length l)
-      go true f below = absurd (true≢false f)
-      go false f below = ap suc (below f)
+      go : (t : Bool) → holds same a l ≡ true → last_place same a l ≡ i
+          → ((t || holds same a l) ≡ true) × (cond (t && not (holds same a l)) 0 (suc (last_place same a l)) ≡ suc i)
+      go true p q = (refl, rw p (ap suc q))
+      go false p q = (p, ap suc q)
 
-  pub last_start : (l : List A) → last_place same a l ≡ last_from l 0 (length l)
-  last_start l = go (holds same a l) refl
-    where
-      go : (t : Bool) → holds same a l ≡ t → last_place same a l ≡ cond t (0 + last_place same a l) (length l)
-      go true e = omega arith
-      go false e = nowhere l e
+  pub last_is : (l : List A) (d : A) (i : ℕ) → i < length l → same a (get_or l i d) ≡ true
+      → ((k : ℕ) → i < k → k < length l → same a (get_or l k d) ≡ false) → Some i ≡ last_of same a l
+  last_is l d i h e f =
+      let r = found l d i h e f in
+      rw (r.0, r.1)
 
-  module _ (l : List A) (i met : ℕ) where
-    pub last_here : i < length l → same a (get_or l i none) ≡ true → (next : ℕ) → next ≡ i → last_from l i met ≡ last_from l (i + 1) next
-    unfolding holds last_place
-    last_here h e next is = rw (left_at none l i h, e) (go (holds same a (drop (i + 1) l)))
-      where
-        go : (t : Bool) → i + cond (not t) 0 (suc (last_place same a (drop (i + 1) l))) ≡ cond t (i + 1 + last_place same a (drop (i + 1) l)) next
-        go true = omega arith
-        go false = omega arith
+-- what `position` and `rposition` say of each place
+module _ {A : Type 0} (same : A → A → Bool) (a : A) (l : List A) (d : A) where
+  abbrev pub FirstAt : Option ℕ → Type 0
+  FirstAt None = (k : ℕ) → k < length l → same a (get_or l k d) ≡ false
+  FirstAt (Some i) = (i < length l) × (same a (get_or l i d) ≡ true) × ((k : ℕ) → k < i → same a (get_or l k d) ≡ false)
 
-    pub last_later : i < length l → same a (get_or l i none) ≡ false → (next : ℕ) → next ≡ met → last_from l i met ≡ last_from l (i + 1) next
-    unfolding holds last_place
-    last_later h e next is = rw (left_at none l i h, e) (go (holds same a (drop (i + 1) l)))
-      where
-        go : (t : Bool) → cond t (i + suc (last_place same a (drop (i + 1) l))) met ≡ cond t (i + 1 + last_place same a (drop (i + 1) l)) next
-        go true = omega arith
-        go false = sym is
+  pub first_from : (r : Option ℕ) → FirstAt r → r ≡ first_of same a l
+  first_from None f = first_none_is same a l d f
+  first_from (Some i) f = first_is same a l d i f.0 f.1 f.2
 
-    pub last_end : length l ≤ i → last_from l i met ≡ met
-    unfolding holds
-    last_end h = rw (drop_of_length-le l h)
+  abbrev pub LastAt : Option ℕ → Type 0
+  LastAt None = (k : ℕ) → k < length l → same a (get_or l k d) ≡ false
+  LastAt (Some i) = (i < length l) × (same a (get_or l i d) ≡ true) × ((k : ℕ) → i < k → k < length l → same a (get_or l k d) ≡ false)
 
--- how often a number stands there
-module _ (n : ℕ) (l : List ℕ) (i : ℕ) where
-  pub count_here : i < length l → eqb n (get_or l i 0) ≡ true → count_of n (drop i l) ≡ suc (count_of n (drop (i + 1) l))
-  unfolding count_of
-  count_here h e = ap (count_of n) (left_at 0 l i h) ∙ rw e
+  pub last_from : (r : Option ℕ) → LastAt r → r ≡ last_of same a l
+  last_from None f = last_none_is same a l d f
+  last_from (Some i) f = last_is same a l d i f.0 f.1 f.2
 
-  pub count_later : i < length l → eqb n (get_or l i 0) ≡ false → count_of n (drop i l) ≡ count_of n (drop (i + 1) l)
-  unfolding count_of
-  count_later h e = ap (count_of n) (left_at 0 l i h) ∙ rw e
+-- two tests that answer alike find the same
+pub first_bytes : (a : List ℕ) (l : List (List ℕ)) → first_of (pointwise nat_eq) a l ≡ first_of same_bytes a l
+first_bytes a l = ap (λ (same : List ℕ → List ℕ → Bool). first_of same a l) (fun_ext (λ x. fun_ext (λ y. same_pointwise x y)))
 
-  pub count_end : length l ≤ i → count_of n (drop i l) ≡ 0
-  unfolding count_of
-  count_end h = ap (count_of n) (drop_of_length-le l h)
-
--- whether a test passes for each
-module _ {A : Type 0} (test : A → Bool) (none : A) (l : List A) (i : ℕ) where
-  pub every_fails : i < length l → test (get_or l i none) ≡ false → every test (drop i l) ≡ false
-  unfolding every
-  every_fails h e = ap (every test) (left_at none l i h) ∙ rw e
-
-  pub every_later : i < length l → test (get_or l i none) ≡ true → every test (drop i l) ≡ every test (drop (i + 1) l)
-  unfolding every
-  every_later h e = ap (every test) (left_at none l i h) ∙ rw e
-
-  pub every_end : length l ≤ i → every test (drop i l) ≡ true
-  unfolding every
-  every_end h = ap (every test) (drop_of_length-le l h)
-
--- the same for the first n of an array
-module _ {A : Type 0} (test : A → Bool) (none : A) (n : ℕ) (a : List A) (i : ℕ) where
-  abbrev these : List A
-  these = firsts none n a
-
-  pub firsts_fail : i < n → test (get_or a i none) ≡ false → every test (drop i these) ≡ false
-  firsts_fail h e = every_fails test none these i (omega (arith, length_firsts none n a)) (ap test (get_firsts none n a i h) ∙ e)
-
-  pub firsts_later : i < n → test (get_or a i none) ≡ true → every test (drop i these) ≡ every test (drop (i + 1) these)
-  firsts_later h e = every_later test none these i (omega (arith, length_firsts none n a)) (ap test (get_firsts none n a i h) ∙ e)
-
-  pub firsts_end : n ≤ i → every test (drop i these) ≡ true
-  firsts_end h = every_end test none these i (omega (arith, length_firsts none n a))
+-- how often a number stands there is how often the test for it passes
+pub count_is : (d : ℕ) (l : List ℕ) → count_by (λ (x : ℕ). eqb d x) l ≡ count_of d l
+unfolding count_of
+count_is d l = sym (is_count_by (count_of d) (eqb d) refl (λ x xs. ap (λ (n : ℕ). cond (eqb d x) n (count_of d xs)) (omega arith)) l)

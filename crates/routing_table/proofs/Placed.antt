@@ -1,13 +1,13 @@
--- The first and the last place of something in a list: below the length exactly where the list holds it, and never past it. Over any
--- element and any test. Assumes nothing.
-use Prim.Native.Nat.{ℕ, suc, ◌<◌, ◌≤◌}
+-- The first and the last place of something in a list: below the length exactly where the list holds it. Over any element and
+-- any test. Assumes nothing.
+use Prim.Native.Nat.{suc, ◌<◌}
 use native.Mathlib.Omega.{arith}
-use mathlib.Core.Path.{◌≡◌, refl, sym, ◌∙◌}
+use mathlib.Core.Path.{◌≡◌, refl, ◌∙◌}
 use mathlib.Core.Bool.{Bool, true, false, not, cond, ◌&&◌, ◌||◌}
 use mathlib.Core.List.{List, [], ◌∷◌}
 use lib.Dec.{ltb, leb-suc-suc}
 use lib.ListN.{length}
-use borrow.Author.Tests.{lt-ltb, le-ltb}
+use borrow.Author.Tests.{lt-ltb, ltb-true}
 use Rattle.octets.specs.Equal.{holds}
 use Rattle.routing_table.specs.Places.{first_place, last_place}
 
@@ -23,15 +23,6 @@ module _ {A : Type 0} (same : A → A → Bool) (a : A) where
       go true below = lt-ltb 0 (suc (length l)) (omega arith)
       go false below = leb-suc-suc (suc (first_place same a l)) (length l) ∙ below
 
-  pub place_most : (l : List A) → first_place same a l ≤ length l
-  unfolding first_place
-  place_most [] = omega arith
-  place_most (b ∷ l) = go (same a b) (place_most l)
-    where
-      go : (t : Bool) → first_place same a l ≤ length l → cond t 0 (suc (first_place same a l)) ≤ suc (length l)
-      go true below = omega arith
-      go false below = omega arith
-
   -- and so is the last
   pub last_holds : (l : List A) → ltb (last_place same a l) (length l) ≡ holds same a l
   unfolding last_place holds
@@ -44,25 +35,10 @@ module _ {A : Type 0} (same : A → A → Bool) (a : A) where
       go true false e below = lt-ltb 0 (suc (length l)) (omega arith)
       go false u e below = leb-suc-suc (suc (last_place same a l)) (length l) ∙ below ∙ e
 
-  pub last_most : (l : List A) → last_place same a l ≤ length l
-  unfolding last_place
-  last_most [] = omega arith
-  last_most (b ∷ l) = go (same a b && not (holds same a l)) (last_most l)
-    where
-      go : (t : Bool) → last_place same a l ≤ length l → cond t 0 (suc (last_place same a l)) ≤ suc (length l)
-      go true below = omega arith
-      go false below = omega arith
+-- what a list holds has its places below the length
+module _ {A : Type 0} (same : A → A → Bool) (a : A) (l : List A) (h : holds same a l ≡ true) where
+  pub first_below : first_place same a l < length l
+  first_below = ltb-true (first_place same a l) (length l) (place_holds same a l ∙ h)
 
--- a place below the number of all says that the list holds it, and any other that it does not
-module _ {A : Type 0} (same : A → A → Bool) (a : A) (l : List A) (n at : ℕ) (long : length l ≡ n) where
-  pub first_held : at ≡ first_place same a l → at < n → holds same a l ≡ true
-  first_held e h = sym (place_holds same a l) ∙ lt-ltb (first_place same a l) (length l) (omega arith)
-
-  pub first_none : at ≡ first_place same a l → n ≤ at → holds same a l ≡ false
-  first_none e h = sym (place_holds same a l) ∙ le-ltb (first_place same a l) (length l) (omega arith)
-
-  pub last_held : at ≡ last_place same a l → at < n → holds same a l ≡ true
-  last_held e h = sym (last_holds same a l) ∙ lt-ltb (last_place same a l) (length l) (omega arith)
-
-  pub last_none : at ≡ last_place same a l → n ≤ at → holds same a l ≡ false
-  last_none e h = sym (last_holds same a l) ∙ le-ltb (last_place same a l) (length l) (omega arith)
+  pub last_below : last_place same a l < length l
+  last_below = ltb-true (last_place same a l) (length l) (last_holds same a l ∙ h)

@@ -7,8 +7,8 @@ mod surveys;
 
 ghost use Rattle.std.specs.Prelude.{◌≡◌};
 ghost use Rattle.routing_table.specs.View.{view, fresh_of};
-ghost use Rattle.routing_table.specs.Survey.{survey_of};
-ghost use Rattle.routing_table.specs.Find.{meaning_of, find_of, contact_or0, failures_or0};
+ghost use Rattle.routing_table.specs.Survey.{Sized, survey_of};
+ghost use Rattle.routing_table.specs.Find.{meaning_of, find_of};
 
 use refusal::Refusal;
 pub use rules::record_fits;
@@ -33,7 +33,8 @@ pub const RECORD: usize = 300;
 
 // A node that was seen: its id, its radius, its IPv4 address, its port and its node record, which is the first `len` bytes of `enr`. The
 // bytes behind them mean nothing.
-#[derive(Clone, Copy)]
+// Kept: test routing_edges hands in records of 301 bytes and of the largest length, which no list type could hold.
+#[derive(Clone, Copy, PartialEq, Eq)]
 pub struct Contact {
     pub id: [u8; 32],
     pub radius: [u8; 32],
@@ -44,7 +45,7 @@ pub struct Contact {
 }
 
 // A contact, and how often it failed since it was last seen or became an entry, counted up to three.
-#[derive(Clone, Copy)]
+#[derive(Clone, Copy, PartialEq, Eq)]
 pub struct Entry {
     pub contact: Contact,
     pub failures: u8,
@@ -52,7 +53,8 @@ pub struct Entry {
 
 // The node's own id; the first `count` entries, in an order that means nothing; the first `waiting` replacements, longest unseen first.
 // What stands in other places means nothing.
-#[derive(Clone, Copy)]
+// Kept: test routing_edges hands in 129 entries and the largest counts, which no list type could hold.
+#[derive(Clone, Copy, PartialEq, Eq)]
 pub struct RoutingTable {
     pub own: [u8; 32],
     pub count: usize,
@@ -61,118 +63,80 @@ pub struct RoutingTable {
     pub replacements: [Contact; REPLACEMENTS],
 }
 
-// What a call wants to know of a table and an id. Places are counted from 0, and one that is not there is the number of entries or
-// replacements. All is false and 0 where the table breaks its rules.
-#[derive(Clone, Copy)]
+// What a call wants to know of an id in a table that keeps its rules. Places are counted from 0.
+#[derive(Clone, Copy, PartialEq, Eq)]
 pub struct Facts {
-    // The table keeps its rules.
-    pub good: bool,
     // The id is our own.
     pub own: bool,
     // The places of the entry and of the replacement with this id.
-    pub entry: usize,
-    pub replacement: usize,
+    pub entry: Option<usize>,
+    pub replacement: Option<usize>,
     // How many entries and replacements have the id's log distance.
     pub entries: usize,
     pub replacements: usize,
     // The places of the longest unseen and of the most recently seen replacement of the id's log distance.
-    pub oldest: usize,
-    pub newest: usize,
+    pub oldest: Option<usize>,
+    pub newest: Option<usize>,
 }
 
-// How an id stands in a table.
-#[derive(Clone, Copy)]
+// How an id stands in a table, where it does.
+#[derive(Clone, Copy, PartialEq, Eq)]
 pub enum Found {
-    Entry,
-    Replacement,
-    Absent,
-    Refused(Refusal),
+    Entry(Entry),
+    Replacement(Contact),
 }
 
-// How the id stands, and its contact and failures: zeros where it has none.
-#[derive(Clone, Copy)]
-pub struct FindAnswer {
-    pub found: Found,
-    pub contact: Contact,
-    pub failures: u8,
-}
+impl RoutingTable {
+    // A table with no entries and no replacements.
+    #[tactic(auto, unfolding(crate::specs::View::firsts))]
+    pub fn fresh(own: [u8; 32]) -> RoutingTable
+        ensures { view result ≡ fresh_of own }
+    {
+        let blank = Contact {
+            id: [0; 32],
+            radius: [0; 32],
+            address: [0; 4],
+            port: 0,
+            len: 0,
+            enr: [0; RECORD],
+        };
+        let entry = Entry {
+            contact: blank,
+            failures: 0,
+        };
+        RoutingTable {
+            own,
+            count: 0,
+            entries: [entry; ENTRIES],
+            waiting: 0,
+            replacements: [blank; REPLACEMENTS],
+        }
+    }
 
-// A table with no entries and no replacements.
-pub fn fresh(own: [u8; 32]) -> RoutingTable
-    ensures { view result ≡ fresh_of own }
-{
-    let blank = blank();
-    let entry = Entry {
-        contact: blank,
-        failures: 0,
-    };
-    RoutingTable {
-        own,
-        count: 0,
-        entries: [entry; ENTRIES],
-        waiting: 0,
-        replacements: [blank; REPLACEMENTS],
+    // How an id stands in the table, with its fields.
+    pub fn find(&self, id: [u8; 32]) -> Result<Option<Found>, Refusal>
+        ensures { meaning_of result ≡ find_of (view self.now) id }
+    {
+        let Some(told) = self.survey(id) else {
+            return Err(Refusal::BadState);
+        };
+        if let Some(at) = told.entry {
+            return Ok(Some(Found::Entry(self.entries[at])));
+        }
+        if let Some(at) = told.replacement {
+            return Ok(Some(Found::Replacement(self.replacements[at])));
+        }
+        Ok(None)
     }
-}
 
-// How an id stands in the table, with its fields.
-pub fn find(table: RoutingTable, id: [u8; 32]) -> FindAnswer
-    ensures result_value { meaning_of result ≡ find_of (view table) id }
-    ensures contact_value { result.contact ≡ contact_or0 (find_of (view table) id) }
-    ensures failures_value { result.failures ≡ failures_or0 (find_of (view table) id) }
-{
-    let told = survey(table, id);
-    if !told.good {
-        return answer(Found::Refused(Refusal::BadState), blank(), 0);
+    // What a call wants to know of the table and an id; none where the table breaks its rules. The clause `arrays` says what the type
+    // does, for callers that change the table.
+    pub fn survey(&self, id: [u8; 32]) -> Option<Facts>
+        ensures facts { result ≡ survey_of (view self.now) id }
+        ensures arrays { Sized self.now }
+    {
+        let entries = self.entries.get(..self.count)?;
+        let replacements = self.replacements.get(..self.waiting)?;
+        surveys::surveyed(self.own, entries, replacements, id)
     }
-    let at = told.entry;
-    if at < table.count {
-        let entry = table.entries[at];
-        return answer(Found::Entry, entry.contact, entry.failures);
-    }
-    let place = told.replacement;
-    if place < table.waiting {
-        let contact = table.replacements[place];
-        return answer(Found::Replacement, contact, 0);
-    }
-    answer(Found::Absent, blank(), 0)
-}
-
-// An answer of `find`.
-fn answer(found: Found, contact: Contact, failures: u8) -> FindAnswer
-    ensures { result ≡ record { found = found; contact = contact; failures = failures } }
-{
-    FindAnswer {
-        found,
-        contact,
-        failures,
-    }
-}
-
-// A contact of zeros.
-fn blank() -> Contact
-    ensures { result ≡ Rattle.routing_table.specs.Find.blank }
-{
-    Contact {
-        id: [0u8; 32],
-        radius: [0u8; 32],
-        address: [0u8; 4],
-        port: 0,
-        len: 0,
-        enr: [0u8; RECORD],
-    }
-}
-
-// What a call wants to know of a table and an id.
-#[tactic(auto, using(crate::proofs::Kept::count_over, crate::proofs::Kept::waiting_over))]
-pub fn survey(table: RoutingTable, id: [u8; 32]) -> Facts
-    ensures { result ≡ survey_of (view table) id }
-{
-    if ENTRIES < table.count {
-        return surveys::nothing();
-    }
-    if REPLACEMENTS < table.waiting {
-        return surveys::nothing();
-    }
-    surveys::surveyed(table, id)
 }

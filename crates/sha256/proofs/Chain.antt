@@ -2,8 +2,11 @@
 use Prim.Native.Nat.{ℕ, suc, ◌+◌, ◌*◌, ◌/◌, ◌%◌, ◌<◌, ◌≤◌}
 use native.Mathlib.Numerals.{add-one}
 use mathlib.Core.Path.{◌≡◌, sym, ap, ap₂, ◌∙◌}
-use mathlib.Core.List.{List, ◌++◌}
-use lib.ListN.{length, take, drop, replicate}
+use mathlib.Core.List.{List, [], ◌++◌}
+use native.Mathlib.Omega.{arith}
+use Rattle.std.specs.Simd.{first_chunks}
+use Rattle.octets.proofs.Parts.{chunk_at}
+use lib.ListN.{length, get_or, take, replicate}
 use Rattle.octets.specs.Bytes.{be_bytes}
 use Rattle.sha256_block.specs.declared.State.{State}
 use Rattle.sha256_block.specs.Block.{compressed}
@@ -18,11 +21,12 @@ after_more p block k s r e b is = is ∙ ap₂ compressed e b
 
 module _ (m : List ℕ) where
   -- one that the message fills
-  pub inside_more : (k d : ℕ) (s r : State) → 64 * k + 64 ≤ length m → d ≡ 64 → s ≡ after (pad m) k
-      → r ≡ compressed s (take d (drop (64 * k) m)) → r ≡ after (pad m) (k + 1)
-  inside_more k d s r h long e is =
-      after_more (pad m) (take d (drop (64 * k) m)) k s r e
-      (ap (λ (n : ℕ). take n (drop (64 * k) m)) long ∙ sym (block_inside m k h)) is
+  pub inside_more : (parts : List (List ℕ)) → parts ≡ first_chunks 64 (length m / 64) m → (k : ℕ) (s r : State) → k < length m / 64
+      → s ≡ after (pad m) k → r ≡ compressed s (get_or parts k []) → r ≡ after (pad m) (k + 1)
+  inside_more parts are k s r h e is =
+      let block : get_or parts k [] ≡ block_at (pad m) k =
+      ap (λ (l : List (List ℕ)). get_or l k []) are ∙ chunk_at 64 (length m / 64) m k h ∙ sym (block_inside m k (omega arith)) in
+      after_more (pad m) (get_or parts k []) k s r e block is
       ∙ ap (after (pad m)) (sym (add-one k))
 
   -- the last one, where the length fits into the block that the message ends in

@@ -1,5 +1,5 @@
 -- Bytes as the code writes them: the block that the message ends in, the length in bits, and the words of a hash. Assumes nothing.
-use Prim.Native.Nat.{ℕ, zero, suc, ◌+◌, ◌-◌, ◌*◌, ◌/◌, ◌%◌, ◌<◌}
+use Prim.Native.Nat.{ℕ, zero, suc, ◌+◌, ◌-◌, ◌*◌, ◌%◌, ◌^◌, ◌<◌}
 use native.Mathlib.Numerals.{add-one}
 use native.Mathlib.Omega.{arith}
 use mathlib.Core.Path.{◌≡◌, refl, sym, ap, ap₂, ◌∙◌}
@@ -9,7 +9,10 @@ use lib.Seq.{set_at, take_at, drop-append-add, append_snoc, take-suc, length-tak
 use Rattle.octets.specs.Bytes.{Bytes, be_bytes}
 use Rattle.octets.specs.Buffer.{placed}
 use Rattle.octets.proofs.Buffers.{placed_room}
-use Rattle.octets.proofs.Numbers.{be_bytes_length, be_bytes_bytes, bytes_append}
+use native.Mathlib.Nat.{mul_comm}
+use mir.Syntax.{w64}
+use Rattle.std.specs.Int.{to_be_bytes}
+use Rattle.octets.proofs.Numbers.{be_bytes_length, be_bytes_bytes, be_bytes_std, be_bytes_mod, bytes_append}
 use Rattle.sha256.specs.Hash.{word_bytes}
 
 -- zeros without the first k of them
@@ -19,10 +22,11 @@ zeros_left (suc k) zero m e = absurd (omega arith)
 zeros_left (suc k) (suc n) m e = zeros_left k n m (omega arith)
 
 -- some bytes at the front of 64 zeros, and 128 behind them
-pub begun_block : (l block : List ℕ) (n v : ℕ) → length l ≡ n → n < 64 → block ≡ placed (replicate 64 0) 0 l → v ≡ 128
-    → set block n v ≡ l ++ (128 ∷ []) ++ replicate (63 - n) 0
-begun_block l block n v h k e is =
-    ap₂ (λ (x : List ℕ) (w : ℕ). set x n w)
+pub begun_block : (l block : List ℕ) (i n v : ℕ) → i ≡ n → length l ≡ n → n < 64 → block ≡ placed (replicate 64 0) 0 l → v ≡ 128
+    → set block i v ≡ l ++ (128 ∷ []) ++ replicate (63 - n) 0
+begun_block l block i n v at h k e is =
+    ap (λ (j : ℕ). set block j v) at
+    ∙ ap₂ (λ (x : List ℕ) (w : ℕ). set x n w)
     (e
     ∙ placed_room (replicate 64 0) 0 l (omega arith)
     ∙ ap (λ (x : List ℕ). l ++ x) (zeros_left (0 + length l) 64 (suc (63 - n)) (omega arith)))
@@ -38,37 +42,14 @@ ended_block block count last h k e =
     ∙ ap (λ (l : List ℕ). take 56 block ++ count ++ l) (drop_of_length-le block {i = 56 + length count} (omega arith))
     ∙ append-nil (take 56 block ++ count)
 
-split_last : (k x : ℕ) → be_bytes (suc k) x ≡ be_bytes k (x / 256) ++ (x % 256 ∷ [])
-unfolding be_bytes
-split_last k x = refl
-
--- the length in bits: the last byte is made of five bits of n, and seven bytes of those before
-pub bits_of : (n : ℕ) → be_bytes 8 (8 * n) ≡ be_bytes 7 (n / 32) ++ (n % 32 * 8 ∷ [])
-bits_of n =
-    let high : 8 * n / 256 ≡ n / 32 = omega arith in
-    let low : 8 * n % 256 ≡ n % 32 * 8 = omega arith in
-    split_last 7 (8 * n) ∙ ap₂ (λ (q r : ℕ). be_bytes 7 q ++ (r ∷ [])) high low
-
-seven : (n : ℕ) → ◌≡◌ {A = List ℕ}
-    (n / 32 / 256 / 256 / 256 / 256 / 256 / 256 % 256 ∷ n / 32 / 256 / 256 / 256 / 256 / 256 % 256 ∷ n / 32 / 256 / 256 / 256 / 256 % 256
-    ∷ n / 32 / 256 / 256 / 256 % 256 ∷ n / 32 / 256 / 256 % 256 ∷ n / 32 / 256 % 256 ∷ n / 32 % 256 ∷ n % 32 * 8 ∷ [])
-    (be_bytes 7 (n / 32) ++ (n % 32 * 8 ∷ []))
-unfolding be_bytes
-seven n = refl
-
--- so eight bytes are the length in bits
-pub bits_are : (n a b c d e f g h : ℕ)
-    → a ≡ n / 32 / 256 / 256 / 256 / 256 / 256 / 256 % 256 → b ≡ n / 32 / 256 / 256 / 256 / 256 / 256 % 256
-    → c ≡ n / 32 / 256 / 256 / 256 / 256 % 256 → d ≡ n / 32 / 256 / 256 / 256 % 256 → e ≡ n / 32 / 256 / 256 % 256
-    → f ≡ n / 32 / 256 % 256 → g ≡ n / 32 % 256 → h ≡ n % 32 * 8
-    → a ∷ b ∷ c ∷ d ∷ e ∷ f ∷ g ∷ h ∷ [] ≡ be_bytes 8 (8 * n)
-bits_are n a b c d e f g h p q r s t u v w =
-    parts a _ b _ c _ d _ e _ f _ g _ h _ p q r s t u v w ∙ seven n ∙ sym (bits_of n)
-  where
-    parts : (a a' b b' c c' d d' e e' f f' g g' h h' : ℕ)
-        → a ≡ a' → b ≡ b' → c ≡ c' → d ≡ d' → e ≡ e' → f ≡ f' → g ≡ g' → h ≡ h'
-        → ◌≡◌ {A = List ℕ} (a ∷ b ∷ c ∷ d ∷ e ∷ f ∷ g ∷ h ∷ []) (a' ∷ b' ∷ c' ∷ d' ∷ e' ∷ f' ∷ g' ∷ h' ∷ [])
-    parts a a' b b' c c' d d' e e' f f' g g' h h' p q r s t u v w = cc
+-- the length in bits as std writes it down, which wraps
+pub bits_are : (n bits : ℕ) (bytes : List ℕ) → bytes ≡ to_be_bytes w64 bits → bits ≡ n * 8 % 2 ^ 64 → bytes ≡ be_bytes 8 (8 * n)
+bits_are n bits bytes is e =
+    is
+    ∙ ap (to_be_bytes w64) e
+    ∙ be_bytes_std 8 (n * 8 % 256 ^ 8)
+    ∙ be_bytes_mod 8 (n * 8)
+    ∙ ap (be_bytes 8) (mul_comm n 8)
 
 -- words joined
 word_bytes_append : (xs ys : List ℕ) → word_bytes (xs ++ ys) ≡ word_bytes xs ++ word_bytes ys

@@ -22,10 +22,8 @@ fn whole_blocks(message: &[u8]) -> State
     ensures { result ≡ after (pad message.now) (length message.now / 64) }
 {
     let mut state = start();
-    for n in 0..message.len() / 64 {
-        let from = 64 * n;
-        let to = from + 64;
-        state = sha256_block::compress(state, &message[from..to]);
+    for block in message.as_chunks::<64>().0 {
+        state = sha256_block::compress(state, block);
     }
     state
 }
@@ -34,16 +32,16 @@ fn whole_blocks(message: &[u8]) -> State
 fn start() -> State
     ensures { result ≡ state_of start_words }
 {
-    let words = sha256_tables::start_words();
+    let [a, b, c, d, e, f, g, h] = sha256_tables::start_words();
     State {
-        a: words[0],
-        b: words[1],
-        c: words[2],
-        d: words[3],
-        e: words[4],
-        f: words[5],
-        g: words[6],
-        h: words[7],
+        a,
+        b,
+        c,
+        d,
+        e,
+        f,
+        g,
+        h,
     }
 }
 
@@ -67,10 +65,10 @@ fn last_blocks(state: State, message: &[u8]) -> State
 fn begun_block(message: &[u8]) -> [u8; 64]
     ensures { result ≡ begun message.now }
 {
-    let from = message.len() / 64 * 64;
+    let rest = message.as_chunks::<64>().1;
     let mut block = [0u8; 64];
-    octets::put(&message[from..], &mut block, 0);
-    block[message.len() % 64] = 128;
+    octets::put(rest, &mut block, 0);
+    block[rest.len()] = 128;
     block
 }
 
@@ -83,63 +81,30 @@ fn ended_block(block: [u8; 64], count: [u8; 8]) -> [u8; 64]
     last
 }
 
-// How many bits n bytes are, as eight bytes, heaviest first. Nothing overflows: the last byte is made of the last five bits of n,
-// and all others of the bits before these.
+// How many bits n bytes are, as eight bytes, heaviest first. What does not fit these is lost, as the product wraps.
 fn bit_count(n: usize) -> [u8; 8]
     ensures { result ≡ be_bytes 8 (8 * n) }
 {
-    let q = n / 32;
-    let q1 = q / 256;
-    let q2 = q1 / 256;
-    let q3 = q2 / 256;
-    let q4 = q3 / 256;
-    let q5 = q4 / 256;
-    let q6 = q5 / 256;
-    [
-        low(q6),
-        low(q5),
-        low(q4),
-        low(q3),
-        low(q2),
-        low(q1),
-        low(q),
-        low(n % 32 * 8),
-    ]
-}
-
-// The lightest byte of a number.
-fn low(n: usize) -> u8
-    ensures { result ≡ n % 256 }
-{
-    (n % 256) as u8
+    (n as u64).wrapping_mul(8).to_be_bytes()
 }
 
 // The state as bytes.
 fn digest(state: State) -> [u8; 32]
     ensures { result ≡ word_bytes (words_of state) }
 {
-    let words = [
-        state.a, state.b, state.c, state.d, state.e, state.f, state.g, state.h,
-    ];
+    let State {
+        a,
+        b,
+        c,
+        d,
+        e,
+        f,
+        g,
+        h,
+    } = state;
     let mut out = [0u8; 32];
-    for i in 0..8 {
-        let four = word_bytes(words[i]);
-        octets::put(&four, &mut out, 4 * i);
+    for (i, word) in [a, b, c, d, e, f, g, h].iter().enumerate() {
+        octets::put(&word.to_be_bytes(), &mut out, 4 * i);
     }
     out
-}
-
-// A word as bytes, heaviest first.
-fn word_bytes(w: u32) -> [u8; 4]
-    ensures { result ≡ be_bytes 4 w }
-{
-    let q1 = w / 256;
-    let q2 = q1 / 256;
-    let q3 = q2 / 256;
-    [
-        (q3 % 256) as u8,
-        (q2 % 256) as u8,
-        (q1 % 256) as u8,
-        (w % 256) as u8,
-    ]
 }

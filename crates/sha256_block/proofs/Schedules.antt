@@ -1,10 +1,13 @@
 -- The schedule as the code fills it in, the words so far and then zeros: how many words there are, one word more, and that zeros behind
 -- a short block do not count. Assumes nothing.
-use Rattle.std.proofs.Common.{◌≡◌, ℕ, zero, suc, ◌+◌, ◌-◌, ◌*◌, ◌<◌, ◌≤◌, List, [], ◌∷◌, ◌++◌, length, get_or, set, replicate, sym, refl, ap, ◌∙◌, ap₂, zero-add, add-one, arith, length-append}
+use Rattle.std.proofs.Common.{◌≡◌, ℕ, zero, suc, ◌+◌, ◌-◌, ◌*◌, ◌<◌, ◌≤◌, List, [], ◌∷◌, ◌++◌, length, get_or, set, replicate, sym, refl, ap, ◌∙◌, ap₂, zero-add, add-zero, add-one, arith, take, drop, lit<, w32, get_or-take, get_or-drop, length-append}
 use lib.ListN.{get_or-append}
+use Rattle.std.specs.Simd.{first_chunks}
+use Rattle.std.specs.Int.{from_be_bytes}
+use Rattle.octets.specs.Bytes.{be}
 use lib.Seq.{set_at, append_snoc}
 use Rattle.octets.specs.Parts.{bytes_at}
-use Rattle.octets.proofs.Parts.{bytes_at_get}
+use Rattle.octets.proofs.Parts.{bytes_at_get, chunk_at}
 use Rattle.sha256_block.specs.Block.{word_at, first_words, next_word, schedule}
 
 first_length : (block : List ℕ) (n : ℕ) → length (first_words block n) ≡ n
@@ -77,3 +80,27 @@ pub filled_words : (block : List ℕ) (m : ℕ) → 64 ≤ m → first_words (by
 filled_words block m h =
     words_same (bytes_at m 0 block) block 16
     (λ i k. bytes_at_get m 0 block i (omega arith) ∙ ap (λ (j : ℕ). get_or block j 0) (zero-add i))
+
+-- so have its first 64 bytes
+pub front_words : (block front : List ℕ) → front ≡ take 64 block → first_words front 16 ≡ first_words block 16
+front_words block front e = words_same front block 16 (λ i k. ap (λ (l : List ℕ). get_or l i 0) e ∙ get_or-take 64 block i 0 (omega arith))
+
+-- byte j of part t of a block in parts of four
+part_at : (xs : List ℕ) (k t j : ℕ) → t < k → j < 4 → get_or (get_or (first_chunks 4 k xs) t []) j 0 ≡ get_or xs (4 * t + j) 0
+part_at xs k t j h l =
+    ap (λ (p : List ℕ). get_or p j 0) (chunk_at 4 k xs t h)
+    ∙ get_or-take 4 (drop (4 * t) xs) j 0 l
+    ∙ get_or-drop (4 * t) xs j 0
+
+-- the number of a part is the word there
+pub word_is : (block : List ℕ) (parts : List (List ℕ)) → parts ≡ first_chunks 4 16 block → (t r : ℕ) → t < 16
+    → r ≡ from_be_bytes w32 (get_or parts t []) → r ≡ word_at block t
+unfolding word_at be
+word_is block parts are t r h is =
+    let at : (j : ℕ) → j < 4 → get_or (get_or parts t []) j 0 ≡ get_or block (4 * t + j) 0 =
+    λ j l. ap (λ (p : List (List ℕ)). get_or (get_or p t []) j 0) are ∙ part_at block 16 t j h l in
+    let e0 : get_or (get_or parts t []) 0 0 ≡ get_or block (4 * t) 0 = at 0 (lit< tt) ∙ ap (λ (i : ℕ). get_or block i 0) (add-zero (4 * t)) in
+    let e1 = at 1 (lit< tt) in
+    let e2 = at 2 (lit< tt) in
+    let e3 = at 3 (lit< tt) in
+    omega arith

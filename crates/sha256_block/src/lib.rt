@@ -1,12 +1,9 @@
 // One block of SHA-256, as FIPS 180-4 has it: the schedule of 64 words, 64 rounds, and their sum with the state before.
 #![tactic(auto)]
 
-ghost use Rattle.std.specs.Prelude.{◌≡◌, ◌+◌, ◌≤◌, [], ◌∷◌, ◌++◌, length, replicate};
-ghost use Rattle.octets.specs.Bytes.{be};
+ghost use Rattle.std.specs.Prelude.{◌≡◌, ◌++◌, replicate, fold, zip};
 ghost use Rattle.sha256_tables.specs.Tables.{round_words};
 ghost use Rattle.sha256_block.specs.Block.{first_words, next_of, schedule, T1, T2, round, rounds, sums, compressed};
-
-use std::num::wrapping_add_u32;
 
 // The eight words that are carried from block to block, and the working variables of the rounds.
 #[derive(Clone, Copy)]
@@ -35,6 +32,7 @@ fn scheduled(block: &[u8]) -> [u32; 64]
     ensures { result ≡ schedule block.now 48 }
 {
     let mut words = opening(block);
+    // Kept: no plainer, a word is made of four before it in the array that the loop writes.
     for n in 0..48 {
         words[n + 16] = next_word(words[n], words[n + 1], words[n + 9], words[n + 14]);
     }
@@ -45,70 +43,60 @@ fn scheduled(block: &[u8]) -> [u32; 64]
 fn opening(block: &[u8]) -> [u32; 64]
     ensures { result ≡ first_words block.now 16 ++ replicate 48 0 }
 {
-    if 64 <= block.len() {
-        return opening_whole(block);
+    match block.first_chunk::<64>() {
+        Some(whole) => opening_whole(whole),
+        None => opening_whole(&octets::part::<64>(block, 0)),
     }
-    let mut whole = [0u8; 64];
-    octets::fill(block, 0, &mut whole);
-    opening_whole(&whole)
 }
 
-// The same of a block that is not short.
-fn opening_whole(block: &[u8]) -> [u32; 64]
-    requires { 64 ≤ length block.now }
+// The same of a whole block.
+fn opening_whole(block: &[u8; 64]) -> [u32; 64]
     ensures { result ≡ first_words block.now 16 ++ replicate 48 0 }
 {
     let mut words = [0u32; 64];
-    for t in 0..16 {
-        words[t] = word(
-            block[4 * t],
-            block[4 * t + 1],
-            block[4 * t + 2],
-            block[4 * t + 3],
-        );
+    for (t, four) in block.as_chunks::<4>().0.iter().enumerate() {
+        words[t] = u32::from_be_bytes(*four);
     }
     words
-}
-
-// The word of four bytes, heaviest first.
-fn word(x: u8, y: u8, z: u8, last: u8) -> u32
-    ensures { result ≡ be (x ∷ y ∷ z ∷ last ∷ []) }
-{
-    x as u32 * 16777216 + (y as u32 * 65536 + (z as u32 * 256 + last as u32))
 }
 
 // A word of the schedule, from the words 16, 15, 7 and 2 places before it.
 fn next_word(w0: u32, w1: u32, w9: u32, w14: u32) -> u32
     ensures { result ≡ next_of w0 w1 w9 w14 }
 {
-    let small0 = (w1 >> 7 | w1 << 25) ^ (w1 >> 18 | w1 << 14) ^ w1 >> 3;
-    let small1 = (w14 >> 17 | w14 << 15) ^ (w14 >> 19 | w14 << 13) ^ w14 >> 10;
-    wrapping_add_u32(wrapping_add_u32(wrapping_add_u32(small1, w9), small0), w0)
+    let small0 = w1.rotate_right(7) ^ w1.rotate_right(18) ^ w1 >> 3;
+    let small1 = w14.rotate_right(17) ^ w14.rotate_right(19) ^ w14 >> 10;
+    small1
+        .wrapping_add(w9)
+        .wrapping_add(small0)
+        .wrapping_add(w0)
 }
 
 // The 64 rounds.
-fn all_rounds(state: State, words: &[u32]) -> State
-    requires { length words.now ≡ 64 }
+fn all_rounds(state: State, words: &[u32; 64]) -> State
     ensures { result ≡ rounds round_words words.now 0 state 64 }
 {
     let constants = sha256_tables::round_words();
     let mut s = state;
-    for i in 0..8 {
-        s = eight_rounds(s, &constants, words, 8 * i);
+    for (ks, ws) in constants
+        .as_chunks::<8>()
+        .0
+        .iter()
+        .zip(words.as_chunks::<8>().0)
+    {
+        s = eight_rounds(s, ks, ws);
     }
     s
 }
 
-// Eight rounds from round t on. The compiler writes these out one behind the other.
-fn eight_rounds(state: State, constants: &[u32], words: &[u32], t: usize) -> State
-    requires { (t + 8 ≤ length constants.now) × (t + 8 ≤ length words.now) }
-    ensures { result ≡ rounds constants.now words.now t state 8 }
+// Eight rounds, with their constants and their words. The compiler writes these out one behind the other.
+fn eight_rounds(state: State, constants: &[u32; 8], words: &[u32; 8]) -> State
+    ensures { result ≡ fold (λ s p. round s p.0 p.1) state (zip constants.now words.now) }
 {
-    let mut s = state;
-    for n in 0..8 {
-        s = one_round(s, constants[t + n], words[t + n]);
-    }
-    s
+    constants
+        .iter()
+        .zip(words)
+        .fold(state, |s, (k, w)| one_round(s, *k, *w))
 }
 
 // One round, with its constant and its word.
@@ -117,14 +105,12 @@ fn one_round(s: State, k: u32, w: u32) -> State
 {
     let t1 = first_sum(s, k, w);
     let t2 = second_sum(s);
-    let a = wrapping_add_u32(t1, t2);
-    let e = wrapping_add_u32(s.d, t1);
     State {
-        a,
+        a: t1.wrapping_add(t2),
         b: s.a,
         c: s.b,
         d: s.c,
-        e,
+        e: s.d.wrapping_add(t1),
         f: s.e,
         g: s.f,
         h: s.g,
@@ -135,43 +121,35 @@ fn one_round(s: State, k: u32, w: u32) -> State
 fn first_sum(s: State, k: u32, w: u32) -> u32
     ensures { result ≡ T1 s k w }
 {
-    let e = s.e;
-    let turned = (e >> 6 | e << 26) ^ (e >> 11 | e << 21) ^ (e >> 25 | e << 7);
-    let chosen = e & s.f ^ !e & s.g;
-    let sum = wrapping_add_u32(wrapping_add_u32(s.h, turned), chosen);
-    wrapping_add_u32(wrapping_add_u32(sum, k), w)
+    let turned = s.e.rotate_right(6) ^ s.e.rotate_right(11) ^ s.e.rotate_right(25);
+    let chosen = s.e & s.f ^ !s.e & s.g;
+    s.h.wrapping_add(turned)
+        .wrapping_add(chosen)
+        .wrapping_add(k)
+        .wrapping_add(w)
 }
 
 // T2 of a round: a mixed with itself, and the majority of a, b and c.
 fn second_sum(s: State) -> u32
     ensures { result ≡ T2 s }
 {
-    let a = s.a;
-    let turned = (a >> 2 | a << 30) ^ (a >> 13 | a << 19) ^ (a >> 22 | a << 10);
-    let most = a & s.b ^ a & s.c ^ s.b & s.c;
-    wrapping_add_u32(turned, most)
+    let turned = s.a.rotate_right(2) ^ s.a.rotate_right(13) ^ s.a.rotate_right(22);
+    let most = s.a & s.b ^ s.a & s.c ^ s.b & s.c;
+    turned.wrapping_add(most)
 }
 
 // The sums of two states, word by word.
 fn added(s: State, r: State) -> State
     ensures { result ≡ sums s r }
 {
-    let a = wrapping_add_u32(s.a, r.a);
-    let b = wrapping_add_u32(s.b, r.b);
-    let c = wrapping_add_u32(s.c, r.c);
-    let d = wrapping_add_u32(s.d, r.d);
-    let e = wrapping_add_u32(s.e, r.e);
-    let f = wrapping_add_u32(s.f, r.f);
-    let g = wrapping_add_u32(s.g, r.g);
-    let h = wrapping_add_u32(s.h, r.h);
     State {
-        a,
-        b,
-        c,
-        d,
-        e,
-        f,
-        g,
-        h,
+        a: s.a.wrapping_add(r.a),
+        b: s.b.wrapping_add(r.b),
+        c: s.c.wrapping_add(r.c),
+        d: s.d.wrapping_add(r.d),
+        e: s.e.wrapping_add(r.e),
+        f: s.f.wrapping_add(r.f),
+        g: s.g.wrapping_add(r.g),
+        h: s.h.wrapping_add(r.h),
     }
 }

@@ -32,8 +32,8 @@ fn million() -> [u8; 1000000] {
 // Bytes that differ by their place.
 fn by_place() -> [u8; LONGEST] {
     let mut bytes = [0u8; LONGEST];
-    for i in 0..LONGEST {
-        bytes[i] = ((7 * i + i / 256) % 256) as u8;
+    for (i, byte) in bytes.iter_mut().enumerate() {
+        *byte = ((7 * i + i / 256) % 256) as u8;
     }
     bytes
 }

@@ -6,7 +6,7 @@ use native.Mathlib.Omega.{arith}
 use mathlib.Core.Path.{◌≡◌, sym, ap, ap₂, ◌∙◌}
 use mathlib.Core.Bool.{true, and-eq-true_iff}
 use mathlib.Core.List.{List, [], ◌∷◌, ◌++◌}
-use mathlib.Core.Option.{some}
+use Rattle.std.specs.Prelude.{Some}
 use lib.Dec.{eqb}
 use lib.ListN.{length, get_or, take, drop, length-append}
 use lib.Seq.{append_snoc, split_at, take_at, drop_at, get_or_at, length-take-le}
@@ -32,7 +32,7 @@ pub record Framed (n : ℕ) (text : List ℕ) : Type 0 where
 
 module _ (n : ℕ) (text : List ℕ) where
   -- the frame is the bytes of the line's digits
-  pub frame_is : {bs : List ℕ} → bytes_of (take (2 * n) text) ≡ some bs → frame_of n text ≡ bs
+  pub frame_is : {bs : List ℕ} → bytes_of (take (2 * n) text) ≡ Some bs → frame_of n text ≡ bs
   unfolding frame_of
   frame_is e = ap or_none e
 
@@ -50,7 +50,7 @@ module _ (n : ℕ) (text : List ℕ) where
       let long = length-take-le (2 * n) text (omega arith) in
       let read = bytes_of_pairs (take (2 * n) text) t.1 (omega arith) in
       let is = frame_is read in
-      let some-frame = read ∙ ap some (sym is) in
+      let some-frame = read ∙ ap Some (sym is) in
       record {
         size = let two = length_of_bytes (take (2 * n) text) (frame_of n text) some-frame in omega arith;
         bytes = bytes_below (take (2 * n) text) (frame_of n text) some-frame;

@@ -1,7 +1,6 @@
 pub mod Frames
 pub mod KeyLines
 pub mod RoundTrip
-pub mod Answers
 pub mod Forms
 pub mod Reading
 pub mod Writing

@@ -1,6 +1,6 @@
 -- A text written piece by piece into a buffer. `Written` is what holds between two pieces: the buffer starts with the text so far, and its
 -- rest is as it was. The laws are one piece, one line feed, the lines, the turns of the loop of `save`, and what `save` answers. Assumes nothing.
-use Prim.Native.Nat.{ℕ, zero, suc, ◌+◌, ◌*◌, ◌/◌, ◌%◌, ◌≤◌, ◌<◌}
+use Prim.Native.Nat.{ℕ, zero, suc, ◌+◌, ◌*◌, ◌≤◌, ◌<◌}
 use native.Mathlib.Numerals.{add-one}
 use native.Mathlib.Omega.{arith}
 use mathlib.Core.Path.{◌≡◌, refl, sym, ap, ap₂, subst, subst₂, ◌∙◌}
@@ -9,10 +9,11 @@ use mathlib.Core.List.{List, [], ◌∷◌, ◌++◌, append_assoc, append-nil}
 use lib.ListN.{length, get_or, set, take, drop, length-append, length-drop, take-append-drop}
 use lib.Seq.{take_at, drop-append-add, drop-drop, drop-cons, set_at, append_snoc, length-take-le}
 use borrow.Author.Tests.{le-leb, lt-leb}
+use Rattle.std.specs.Int.{w16, to_le_bytes}
 use Rattle.refusal.specs.Outcome.{Outcome, given, refused}
 use Rattle.refusal.specs.Buffer.{Writes}
 use Rattle.refusal.specs.declared.Refusal.TheVariants.{BadState, ShortBuffer}
-use Rattle.refusal.specs.declared.Wrote.TheVariants.{Bytes, Refused}
+use Rattle.std.specs.Prelude.{Ok, Err}
 use Rattle.hexadecimal.specs.Digits.{text_of}
 use Rattle.octets.specs.Bytes.{le_bytes}
 use Rattle.octets.specs.Buffer.{placed}
@@ -20,11 +21,10 @@ use Rattle.octets.proofs.Numbers.{le_bytes_length}
 use Rattle.octets.proofs.Buffers.{placed_room}
 use Rattle.hexadecimal.specs.Buffer.{encoded_to}
 use Rattle.hexadecimal.proofs.Texts.{length_text, text_append}
-use Rattle.key_index.specs.View.{key_limit, View, view_of, chunks, key_at}
+use Rattle.key_index.specs.View.{key_limit, View, view_of, chunks}
 use Rattle.key_index.specs.Good.{good}
 use Rattle.key_index.specs.Keys.{Each}
-use Rattle.key_index.proofs.Chunks.{chunks_length, chunks_more, key_at_in}
-use Rattle.key_index.proofs.Rules.{good_facts}
+use Rattle.key_index.proofs.Chunks.{chunks_length, chunks_more, get_or_chunks}
 use Rattle.snapshot.specs.Text.{kind11, line_of, head_frame, key_lines, form_of, snapshot_of}
 use Rattle.snapshot.specs.Calls.{save_of}
 use Rattle.snapshot.proofs.RoundTrip.{sized_length, head_size_lem}
@@ -100,20 +100,20 @@ key_length : (key : List ℕ) → length key ≡ 9 → length (line_of (2 ∷ ke
 key_length key h = omega (arith, length-append (text_of (2 ∷ key)) (10 ∷ []), length_text (2 ∷ key))
 
 -- a number of two bytes, lightest first
-two_bytes : (count : ℕ) → count < 65536 → (count % 256) ∷ (count / 256) ∷ [] ≡ le_bytes 2 count
+two_bytes : (count : ℕ) → to_le_bytes w16 count ≡ le_bytes 2 count
 unfolding le_bytes
-two_bytes count few = let e : count / 256 ≡ count / 256 % 256 = omega arith in ap (λ (x : ℕ). (count % 256) ∷ x ∷ []) e
+two_bytes count = refl
 
 -- the pieces of the first line
 pub header_placed : (node cap : List ℕ) (count : ℕ) → length node ≡ 32 → length cap ≡ 32 → count < 65536
-    → (d : List ℕ) {o1 o2 o3 o4 : List ℕ} → 135 ≤ length d → o1 ≡ encoded_to (0x11 ∷ []) d 0 → o2 ≡ encoded_to node o1 2 → o3 ≡ encoded_to cap o2 66
-    → o4 ≡ encoded_to ((count % 256) ∷ (count / 256) ∷ []) o3 130 → Placed d 0 (line_of (head_frame kind11 node cap count)) (set o4 134 10)
-header_placed node cap count n c few d {o1} {o2} {o3} h e1 e2 e3 e4 =
+    → (d : List ℕ) {o1 o2 o3 held o4 : List ℕ} → 135 ≤ length d → o1 ≡ encoded_to (0x11 ∷ []) d 0 → o2 ≡ encoded_to node o1 2 → o3 ≡ encoded_to cap o2 66
+    → held ≡ to_le_bytes w16 count → o4 ≡ encoded_to held o3 130 → Placed d 0 (line_of (head_frame kind11 node cap count)) (set o4 134 10)
+header_placed node cap count n c few d {o1} {o2} {o3} h e1 e2 e3 two e4 =
     let number = le_bytes 2 count in
     let w1 = text_piece (begin d 0 (omega arith)) (0x11 ∷ []) 1 refl (omega arith) e1 in
     let w2 = text_piece w1 node 32 n (omega arith) e2 in
     let w3 = text_piece w2 cap 32 c (omega arith) e3 in
-    let w4 = text_piece w3 number 2 (le_bytes_length 2 count) (omega arith) (e4 ∙ ap (λ (t : List ℕ). encoded_to t o3 130) (two_bytes count few)) in
+    let w4 = text_piece w3 number 2 (le_bytes_length 2 count) (omega arith) (e4 ∙ ap (λ (t : List ℕ). encoded_to t o3 130) (two ∙ two_bytes count)) in
     whole (line_of (head_frame kind11 node cap count)) (feed w4 (omega arith))
     (rw (text_append (node ++ cap) number, text_append node cap)) (header_length node cap count n c) h
 
@@ -154,13 +154,6 @@ unfolding chunks
 nines zero b l = tt
 nines (suc m) b l = (length-take-le 9 b (omega arith), nines m (drop 9 b) (omega (arith, length-drop 9 b)))
 
--- a good index has at most so many keys
-pub few_keys : (limit : ℕ) (node cap keys : List ℕ) (count : ℕ)
-    → good limit (view_of node cap keys count) ≡ true → count ≤ limit
-few_keys limit node cap keys count g =
-    let few = (good_facts limit (view_of node cap keys count) g).few in
-    omega (arith, chunks_length count keys)
-
 -- the length of the whole text
 pub saved_length : (node cap keys : List ℕ) (count : ℕ) → length node ≡ 32 → length cap ≡ 32 → 9 * count ≤ length keys
     → length (snapshot_of (view_of node cap keys count)) ≡ 135 + 21 * count
@@ -171,11 +164,11 @@ saved_length node cap keys count n c h =
 -- after a key's line
 pub saving_next : (node cap keys : List ℕ) (count : ℕ) (d : List ℕ) (i : ℕ) (out : List ℕ) → Saving node cap keys count d i out
     → i < count
-    → (key : List ℕ) → key ≡ key_at keys i → (after : List ℕ) → after ≡ placed out (135 + 21 * i) (line_of (2 ∷ key))
+    → (key : List ℕ) → key ≡ get_or (chunks count keys) i [] → (after : List ℕ) → after ≡ placed out (135 + 21 * i) (line_of (2 ∷ key))
     → Saving node cap keys count d (i + 1) after
 saving_next node cap keys count d i out s h key read after p =
     let long = s.long in
-    let is : key ≡ take 9 (drop (9 * i) keys) = read ∙ key_at_in keys i (omega arith) in
+    let is : key ≡ take 9 (drop (9 * i) keys) = read ∙ get_or_chunks count i keys h in
     let nine : length key ≡ 9 = ap length is ∙ length-take-le 9 (drop (9 * i) keys) (omega (arith, length-drop (9 * i) keys)) in
     let room = s.fits in
     let w = piece s.text (line_of (2 ∷ key)) 21 (key_length key nine) (omega arith) p in
@@ -242,23 +235,23 @@ module _ (node cap keys : List ℕ) (count : ℕ) (d first : List ℕ) (n : leng
 -- what `save` answers
 module _ (limit : ℕ) (v : View) (d : List ℕ) where
   -- a bad index
-  pub save_bad : good limit v ≡ false → Writes (save_of limit v (length d)) (Refused BadState) d d
+  pub save_bad : good limit v ≡ false → Writes (save_of limit v (length d)) (Err BadState) d d
   save_bad g =
       let e : save_of limit v (length d) ≡ refused 0 = rw g in
-      subst (λ (o : Outcome (List ℕ)). Writes o (Refused BadState) d d) (sym e) (record { answered = refl; buffer = refl })
+      subst (λ (o : Outcome (List ℕ)). Writes o (Err BadState) d d) (sym e) (record { answered = refl; buffer = refl })
 
   -- a short buffer
-  pub save_short : good limit v ≡ true → length d < length (snapshot_of v) → Writes (save_of limit v (length d)) (Refused ShortBuffer) d d
+  pub save_short : good limit v ≡ true → length d < length (snapshot_of v) → Writes (save_of limit v (length d)) (Err ShortBuffer) d d
   save_short g h =
       let e : save_of limit v (length d) ≡ refused 13 = rw (g, lt-leb (length (snapshot_of v)) (length d) h) in
-      subst (λ (o : Outcome (List ℕ)). Writes o (Refused ShortBuffer) d d) (sym e)
+      subst (λ (o : Outcome (List ℕ)). Writes o (Err ShortBuffer) d d) (sym e)
       (record { answered = refl; buffer = refl })
 
   -- the text
   pub save_written : good limit v ≡ true → (n : ℕ) → length (snapshot_of v) ≡ n → n ≤ length d → (out : List ℕ) → out ≡ snapshot_of v ++ drop n d
-      → Writes (save_of limit v (length d)) (Bytes n) d out
+      → Writes (save_of limit v (length d)) (Ok n) d out
   save_written g n k h out e =
       let fits : length (snapshot_of v) ≤ length d = omega arith in
       let o : save_of limit v (length d) ≡ given (snapshot_of v) = rw (g, le-leb (length (snapshot_of v)) (length d) fits) in
-      subst (λ (x : Outcome (List ℕ)). Writes x (Bytes n) d out) (sym o)
+      subst (λ (x : Outcome (List ℕ)). Writes x (Ok n) d out) (sym o)
       (record { answered = ap given (sym k); buffer = e ∙ ap (λ (m : ℕ). snapshot_of v ++ drop m d) (sym k) })

@@ -1,15 +1,13 @@
 -- What `save` and `reload` answer. Saving tests 0, then 13; reloading tests 0, then 14 with the bad line.
-use Rattle.std.specs.Prelude.{ℕ, cond, List, leb, length}
+use Rattle.std.specs.Prelude.{ℕ, cond, List, leb, length, Result, Ok, Err}
 use Rattle.refusal.specs.Says.{Said, only, at_line, says_of}
 use Rattle.refusal.specs.Outcome.{Outcome, given, refused}
-use Rattle.refusal.specs.declared.Checked.{Checked}
-use Rattle.refusal.specs.declared.Checked.TheVariants.{Accepted, Refused}
+use Rattle.refusal.specs.declared.Refusal.{Refusal}
 use Rattle.key_index.specs.View.{View, view}
 use Rattle.key_index.specs.Good.{good}
 use Rattle.key_index.specs.declared.KeyIndex.{KeyIndex}
 use Rattle.snapshot.specs.Text.{snapshot_of}
 use Rattle.snapshot.specs.Load.{Loading, bad_line, loaded, load_of}
-use Rattle.snapshot.specs.declared.ReloadAnswer.{ReloadAnswer}
 
 -- the text that saving into a buffer of this length writes, or the refusal
 abbrev pub save_of : ℕ → View → ℕ → Outcome (List ℕ)
@@ -29,10 +27,7 @@ reloaded_by index (loaded v) = now v
 abbrev pub reload_for : ℕ → KeyIndex → List ℕ → Reloading
 reload_for limit index text = cond (good limit (view index)) (reloaded_by index (load_of text)) (back (only 0) index)
 
-abbrev pub answered_by : KeyIndex → Checked → Reloading
-answered_by index Accepted = now (view index)
-answered_by index (Refused why) = back (says_of why) index
-
--- what an answer of `reload` stands for
-abbrev pub meaning_of : ReloadAnswer → Reloading
-meaning_of r = answered_by r.index r.checked
+-- what an answer of `reload` and the index afterwards stand for
+abbrev pub meaning_of : Result (Unit {0}) Refusal → KeyIndex → Reloading
+meaning_of (Ok _) index = now (view index)
+meaning_of (Err why) index = back (says_of why) index

@@ -1,8 +1,7 @@
 -- Reading a saved text: the view that it gives, or the first bad line, counted from 1. A line is bad where its form is broken, or an order or
 -- cap rule against the lines before it; a text that ends early is bad at the line that is missing, and one that goes on after the last key
 -- at that line; a line without its line feed is bad.
-use Rattle.std.specs.Prelude.{ℕ, zero, suc, ◌+◌, ◌*◌, Bool, cond, ◌&&◌, List, [], ◌∷◌, eqb, leb, get_or, take, drop}
-use Rattle.std.proofs.Math.Option.{Option, some, none}
+use Rattle.std.specs.Prelude.{ℕ, zero, suc, ◌+◌, ◌*◌, Bool, cond, ◌&&◌, List, [], ◌∷◌, eqb, leb, get_or, take, drop, Option, Some, None}
 use Rattle.octets.specs.Bytes.{be, le}
 use Rattle.hexadecimal.specs.Digits.{bytes_of, all_digits}
 use Rattle.content_key.specs.Key.{selector_of}
@@ -20,8 +19,8 @@ unfoldable pub is_frame : ℕ → List ℕ → Bool
 is_frame n text = eqb (get_or text (2 * n) 0) 10 && all_digits (take (2 * n) text)
 
 abbrev pub or_none : Option (List ℕ) → List ℕ
-or_none (some bytes) = bytes
-or_none none = []
+or_none (Some bytes) = bytes
+or_none None = []
 
 -- that frame, and the text after its line
 unfoldable pub frame_of : ℕ → List ℕ → List ℕ

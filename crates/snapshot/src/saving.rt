@@ -8,26 +8,25 @@ ghost use Rattle.snapshot.specs.Calls.{save_of};
 
 use crate::{FIRST, LINE};
 use key_index::KeyIndex;
-use refusal::{Refusal, Wrote};
+use refusal::Refusal;
 
 // Writes the index's text at the start of a buffer. Nothing is written on a refusal.
-pub fn save(index: KeyIndex, out: &mut [u8]) -> Wrote
-    ensures { Writes (save_of key_limit (view index) (length out.old)) result out.old out.new }
+pub fn save(index: &KeyIndex, out: &mut [u8]) -> Result<usize, Refusal>
+    ensures { Writes (save_of key_limit (view index.now) (length out.old)) result out.old out.new }
 {
-    if !key_index::is_good(index.node, index.cap, &index.keys, index.count) {
-        return Wrote::Refused(Refusal::BadState);
+    if !index.is_good() {
+        return Err(Refusal::BadState);
     }
-    let count = index.count;
-    let size = FIRST + LINE * count;
+    let size = FIRST + LINE * index.count;
     if out.len() < size {
-        return Wrote::Refused(Refusal::ShortBuffer);
+        return Err(Refusal::ShortBuffer);
     }
-    write_header(index.node, index.cap, count, out);
-    for i in 0..count {
-        let key = key_index::key_at(&index.keys, i);
-        write_key(key, out, FIRST + LINE * i);
+    write_header(index.node, index.cap, index.count, out);
+    let held = index.held();
+    for (i, key) in held.iter().enumerate() {
+        write_key(*key, out, FIRST + LINE * i);
     }
-    Wrote::Bytes(size)
+    Ok(size)
 }
 
 // Writes the first line at the start of a buffer.
@@ -37,9 +36,7 @@ fn write_header(node: [u8; 32], cap: [u8; 32], count: usize, out: &mut [u8])
     ensures { out.new ≡ placed out.old 0 (line_of (head_frame kind11 node cap count)) }
 {
     let kind = [0x11u8];
-    let low = (count % 256) as u8;
-    let high = (count / 256) as u8;
-    let held = [low, high];
+    let held = (count as u16).to_le_bytes();
     hexadecimal::encode(&kind, out, 0);
     hexadecimal::encode(&node, out, 2);
     hexadecimal::encode(&cap, out, 66);
@@ -47,7 +44,9 @@ fn write_header(node: [u8; 32], cap: [u8; 32], count: usize, out: &mut [u8])
     out[134] = b'\n';
 }
 
-// Writes a key's line into a buffer from `at` on.
+// Writes a key's line into a buffer from `at` on. Not inlined: the loop over the keys would be made of wide steps over sixteen of them, which
+// take longer.
+#[inline(never)]
 fn write_key(key: [u8; 9], out: &mut [u8], at: usize)
     requires { at + 21 ≤ length out.old }
     ensures { out.new ≡ placed out.old at (line_of (2 ∷ key)) }

@@ -1,16 +1,15 @@
 -- What the check does not find alone of `canonical::root_along`; the invariants beside it say how the loop goes. Assumes nothing.
-use native.Mathlib.Omega.{arith}
-use mathlib.Core.Path.{refl, sym, ◌∙◌}
+use mathlib.Core.Path.{ap, ◌∙◌}
 use borrow.Author.Rules.{rules}
-use Rattle.canonical.proofs.Paths.{step, last}
+use Rattle.accumulator.specs.Tree.{root_along}
+use Rattle.canonical.proofs.Paths.{step, last, parts_are}
 use Rattle.canonical.proofs.root_along.Goals as goal
 
-pub loop-i-init : goal.loop-i-init
-loop-i-init c = (search rules, refl)
-
-pub loop-i-preserved : goal.loop-i-preserved
-loop-i-preserved c =
-    (search rules, step _ (search rules) c.loop-i.i c.loop-i.index (search rules) c.loop-i.node _ _ c.part32-sibling.ensures c.joined-above.ensures ∙ c.loop-i.invariant.1)
+pub loop-sibling-preserved : goal.loop-sibling-preserved
+loop-sibling-preserved c =
+    step _ c.loop-sibling.sibling-index c.loop-sibling.index (search rules) c.loop-sibling.node _ _ (search rules) c.joined-above.ensures ∙ c.loop-sibling.invariant
 
 pub returns : goal.returns
-returns c = sym (last _ c.loop-i.i c.loop-i.index c.loop-i.node (omega arith)) ∙ c.loop-i.invariant.1
+returns c =
+    last _ c.loop-sibling.sibling-index c.loop-sibling.index c.loop-sibling.node _ (search rules) c.loop-sibling.invariant _
+    (ap (root_along c.args.index c.args.leaf) (parts_are _ _ c.as_chunks.ensures.front (search rules)))

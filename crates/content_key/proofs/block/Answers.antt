@@ -13,4 +13,4 @@ returns c =
     let key = c.args.key in
     let size : length key ≡ 9 = search rules in
     omega
-    (arith, ap le c.part4.ensures, ap le c.part4-2.ensures, ap le (bytes_at_rest 8 1 key (omega arith)))
+    (arith, ap le c.part.ensures, ap le c.part-2.ensures, ap le (bytes_at_rest 8 1 key (omega arith)))

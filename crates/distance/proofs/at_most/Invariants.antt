@@ -1,14 +1,11 @@
--- `distance::at_most` meets its contract. The invariant: the test of the whole values is the test of what is left of them. A byte that
--- differs decides, an equal one leaves it to the rest (`proofs/Order.antt`). The measure is what is left of 32. Assumes nothing.
-use Prim.Native.Nat.{◌-◌, ◌≤◌}
-use mathlib.Core.Path.{◌≡◌}
-use lib.Dec.{leb}
-use lib.ListN.{drop}
-use Rattle.octets.specs.Bytes.{be}
+-- `distance::at_most` meets its contract. The invariant: the order of the whole values is that of what is left of them. Bytes that differ
+-- decide, equal ones leave it to the rest. Assumes nothing.
+use Rattle.std.proofs.Common.{◌≡◌, length}
+use Rattle.octets.specs.Order.{lex_leb}
 use Rattle.distance.proofs.at_most.Given as goal
 
-abbrev pub invariant-loop-i : goal.invariant-loop-i
-invariant-loop-i l = (l.i ≤ 32) × (leb (be l.a) (be l.b) ≡ leb (be (drop l.i l.a)) (be (drop l.i l.b)))
-
-abbrev pub decreases-loop-i : goal.decreases-loop-i
-decreases-loop-i l = 32 - l.i
+abbrev pub invariant-loop-x : goal.invariant-loop-x
+invariant-loop-x l =
+    let a = l.x-iterator.a.rest.now in
+    let b = l.x-iterator.b.rest.now in
+    (length a ≡ length b) × (lex_leb l.fn.a l.fn.b ≡ lex_leb a b)

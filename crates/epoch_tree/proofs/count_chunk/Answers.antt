@@ -7,12 +7,12 @@ use Rattle.accumulator.proofs.Epochs.{lengths}
 use Rattle.epoch_tree.proofs.Nodes.{count_bytes}
 use Rattle.epoch_tree.proofs.count_chunk.Goals as goal
 
-pub overflow_cast-chunk-2 : goal.overflow_cast-chunk-2
-overflow_cast-chunk-2 c =
+pub overflow_cast-records : goal.overflow_cast-records
+overflow_cast-records c =
     let few = (lengths c.args.records.now c.requires).most in
     search rules
 
 pub returns : goal.returns
 returns c =
     let few = (lengths c.args.records.now c.requires).most in
-    count_bytes (length c.args.records.now / 64) (omega arith)
+    count_bytes (length c.args.records.now / 64) _ _ (omega arith) (search rules) (search rules)

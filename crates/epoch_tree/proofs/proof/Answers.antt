@@ -1,10 +1,11 @@
 -- `epoch_tree::proof` meets its contract: the tests in their order, and then the siblings at the start of the buffer. Assumes nothing.
 use Prim.Native.Nat.{◌<◌}
 use native.Mathlib.Omega.{arith}
-use mathlib.Core.Path.{◌≡◌, sym, ◌∙◌}
+use mathlib.Core.Path.{◌≡◌, sym, ap, ◌∙◌}
 use mathlib.Core.Bool.{true}
 use borrow.Author.Rules.{rules}
-use Rattle.accumulator.specs.Records.{are_records, record_count}
+use Rattle.accumulator.specs.Records.{are_records, record_count, flat}
+use Rattle.epoch_tree.proofs.Branches.{flat_std}
 use Rattle.epoch_tree.proofs.Answers.{proof_length, proof_nowhere, proof_short, proof_written}
 use Rattle.epoch_tree.proofs.proof.Goals as goal
 use Rattle.epoch_tree.proofs.proof.Goals.{Else-count-position, Else-not-are_records}
@@ -31,4 +32,4 @@ siblings-siblings-requires c = record { records_value = good (goal.at.siblings-s
 
 pub returns : goal.returns
 returns c =
-    proof_written _ _ (good (goal.at.returns c).Else-not-are_records) (there (goal.at.returns c).Else-count-position) _ (search rules) _ _ _ (search rules) c.put.ensures.out_after c.siblings-siblings.ensures
+    proof_written _ _ (good (goal.at.returns c).Else-not-are_records) (there (goal.at.returns c).Else-count-position) _ (search rules) _ _ _ (search rules) c.put.ensures.out_after (c.as_flattened.ensures.value ∙ flat_std c.siblings-siblings.result ∙ ap flat c.siblings-siblings.ensures)

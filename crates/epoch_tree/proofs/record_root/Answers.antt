@@ -1,16 +1,15 @@
 -- `epoch_tree::record_root` meets its contract. Assumes nothing.
-use Prim.Native.Nat.{◌+◌, ◌*◌, ◌-◌}
 use native.Mathlib.Omega.{arith}
 use mathlib.Core.Path.{sym}
-use borrow.Author.Rules.{rules}
+use mathlib.Core.List.{[]}
 use Rattle.accumulator.proofs.Epochs.{root_behind}
 use Rattle.epoch_tree.proofs.Nodes.{record_hash}
 use Rattle.epoch_tree.proofs.record_root.Goals as goal
 
-pub returns-then-records-position : goal.returns-then-records-position
-returns-then-records-position c = sym (root_behind _ _ (search rules))
+pub returns-in-Some : goal.returns-in-Some
+returns-in-Some c =
+    let look = c.in-Some.ensures.lookup in
+    record_hash c.args.records.now c.as_chunks.result.0.now c.as_chunks.ensures.front c.args.position look.3.0 c.as_chunks.ensures.front_len c.in-Some.record.now _ (look.3.1 []) c.hash.ensures
 
-pub returns : goal.returns
-returns c =
-    let at = 64 * c.args.position in
-    record_hash _ _ (search rules) _ (at + 64 - at) at c.hash.ensures (omega arith) (omega arith)
+pub returns-in-None : goal.returns-in-None
+returns-in-None c = let look = c.in-None.ensures.lookup in sym (root_behind c.args.records.now c.args.position (omega (arith, look.3, c.as_chunks.ensures.front_len)))

@@ -24,7 +24,7 @@ returns-then-out-at-2 c =
 pub loop-i-init : goal.loop-i-init
 loop-i-init c =
     let a = c.args in
-    (search rules, search rules, search rules, search rules, paste-zero a.out.now a.at (text_of a.bytes.now))
+    (search rules, search rules, paste-zero a.out.now a.at (text_of a.bytes.now))
 
 pub glyph-requires : goal.glyph-requires
 glyph-requires c = omega (arith, c.type_inv.bytes c.loop-i.i)
@@ -36,10 +36,8 @@ pub loop-i-preserved : goal.loop-i-preserved
 loop-i-preserved c =
     let a = c.args in (
       search rules,
-      search rules,
-      search rules,
       simp length-set (search rules),
-      put_text a.out.now a.at a.bytes.now c.loop-i.i (search rules) (search rules) c.loop-i.out c.loop-i.invariant.4
+      put_text a.out.now a.at a.bytes.now c.loop-i.i (search rules) (search rules) c.loop-i.out c.loop-i.invariant.2
           c.glyph.result c.glyph-in-loop-i.result (search rules) (search rules),
     )
 
@@ -47,4 +45,4 @@ pub returns : goal.returns
 returns c =
     let a = c.args in
     let done = accepted a.out.now a.at a.bytes.now c.loop-i.i (search rules) (search rules) in
-    record { value = done.0; out_after = c.loop-i.invariant.4 ∙ done.1 }
+    record { value = done.0; out_after = c.loop-i.invariant.2 ∙ done.1 }

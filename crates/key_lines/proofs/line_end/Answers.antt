@@ -1,20 +1,22 @@
--- What the check does not find alone of `key_lines::line_end`; the invariants beside it say how the loop goes. Assumes nothing.
-use native.Mathlib.Omega.{arith}
-use borrow.Author.Rules.{rules}
-use Rattle.key_lines.proofs.Parts.{scan_here, scan_on, scan_end}
+-- `key_lines::line_end` meets its contract: where std finds the first line feed is where the definition has it. Assumes nothing.
+use Rattle.std.proofs.Common.{ℕ, List, ◌≡◌, ◌-◌, ◌∙◌, ap, length, drop, take, arith, length-drop, Some, None, ◌==◌, position}
+use lib.Seq.{take_all}
+use Rattle.key_lines.specs.Lines.{line_length}
+use Rattle.key_lines.proofs.Parts.{found}
 use Rattle.key_lines.proofs.line_end.Goals as goal
 
-pub returns-then-input-i-eq10 : goal.returns-then-input-i-eq10
-returns-then-input-i-eq10 c =
-    let here = scan_here c.args.input.now c.loop-i.i (search rules) c.if-input-i-eq10.true in
+-- the rest as the code takes it
+rest : (from : ℕ) (s : List ℕ) → take (length s - from) (drop from s) ≡ drop from s
+rest from s = take_all (length s - from) (drop from s) (omega (arith, length-drop from s))
+
+pub returns-in-Some : goal.returns-in-Some
+returns-in-Some c =
+    let a = c.args in
+    let here : line_length (drop a.from a.input.now) ≡ c.in-Some.n = found (Some c.in-Some.n) _ (c.in-Some.ensures ∙ ap (position (λ c. c == 10)) (rest a.from a.input.now)) in
     omega arith
 
-pub loop-i-preserved : goal.loop-i-preserved
-loop-i-preserved c =
-    let on = scan_on c.args.input.now c.loop-i.i (search rules) c.if-input-i-eq10.false in
-    omega arith
-
-pub returns : goal.returns
-returns c =
-    let end = scan_end c.args.input.now c.loop-i.i (search rules) in
-    omega arith
+pub returns-in-None : goal.returns-in-None
+returns-in-None c =
+    let a = c.args in
+    let end : line_length (drop a.from a.input.now) ≡ length (drop a.from a.input.now) = found None _ (c.in-None.ensures ∙ ap (position (λ c. c == 10)) (rest a.from a.input.now)) in
+    omega (arith, length-drop a.from a.input.now)

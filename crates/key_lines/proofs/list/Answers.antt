@@ -1,6 +1,6 @@
 -- What the check does not find alone of `key_lines::list`; the invariants beside it say how the loop goes. Assumes nothing.
 use native.Mathlib.Omega.{arith}
-use mathlib.Core.Path.{◌≡◌, refl, sym}
+use mathlib.Core.Path.{◌≡◌, refl, ap, ◌∙◌}
 use lib.Seq.{length-take-le}
 use lib.ListN.{length}
 use borrow.Author.Rules.{rules}
@@ -16,23 +16,15 @@ slice_bounds-feed-end c =
     let inside = end_inside _ _ _ _ _ _ _ c.loop-at.invariant _ c.line_end-end.ensures in
     search rules
 
-pub slice_bounds-text-end : goal.slice_bounds-text-end
-slice_bounds-text-end c =
-    let long : length c.finish-printed.result.text ≡ 65 = search rules in
-    search rules
-
-pub slice_bounds-put-end : goal.slice_bounds-put-end
-slice_bounds-put-end c =
-    let printed = c.finish-printed in
-    let long : length printed.result.text ≡ 65 = search rules in
-    sym (length-take-le printed.result.len printed.result.text (omega (arith, printed.ensures.len_bound)))
-
 pub loop-at-preserved-then-end-input : goal.loop-at-preserved-then-end-input
 loop-at-preserved-then-end-input c =
-    let finished = c.finish-printed in
+    let printed = c.finish-printed in
+    let long : length printed.result.text ≡ 65 = search rules in
+    let shown = c.line-shown.ensures in
     ended _ _ _ _ _ _ _ c.loop-at.invariant _ c.line_end-end.ensures _ c.feed-line.ensures c.if-end-input.true
     (omega (arith, c.if-out-written-lt65.false, c.loop-at.invariant))
-    finished.result.text finished.result.len (search rules) finished.ensures.len_bound (λ text b. padded_front _ _ (finished.ensures.by_index text b)) _
+    _ (omega (arith, ap length shown, length-take-le printed.result.len printed.result.text (omega (arith, printed.ensures.len_bound))))
+    (λ text b. shown ∙ padded_front _ _ (printed.ensures.by_index text b)) _
     c.put.ensures.out_after (search rules) _ refl _ c.fresh-line.ensures
 
 pub loop-at-preserved : goal.loop-at-preserved

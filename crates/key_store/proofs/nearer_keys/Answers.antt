@@ -1,34 +1,30 @@
--- What the check does not find alone of `key_store::nearer_keys`; the invariants beside it say how the loop goes. Assumes nothing.
-use Prim.Native.Nat.{ℕ}
-use mathlib.Core.Path.{◌≡◌, sym, ◌∙◌}
+-- `key_store::nearer_keys` meets its contract: in sorted keys the search by halves finds how many are nearer (`proofs/Nearer.antt`). Assumes nothing.
+use Prim.Native.Nat.{ℕ, ◌<◌}
+use native.Mathlib.Omega.{arith}
+use mathlib.Core.Path.{sym}
+use lib.ListN.{get_or}
+use mir.Val.{Fits}
+use mir.Syntax.{w8}
 use borrow.Author.Rules.{rules}
-use borrow.Author.Tests.{leb-true, leb-false}
-use Rattle.key_store.proofs.Nearer.{count_start, count_here, count_next, count_end}
+use Rattle.std.proofs.Common.{tests}
+use Rattle.std.proofs.lemmas.List.Sorted.{IsPartitionPoint-from_clause}
+use Rattle.refusal.proofs.Due.{due}
+use Rattle.octets.specs.Bytes.{be}
+use Rattle.octets.proofs.Numbers.{bytes_all}
+use Rattle.key_store.proofs.Nearer.{is_nearer, nearer_partitioned, partition_nearer}
 use Rattle.key_store.proofs.nearer_keys.Goals as goal
 
--- an answer that is the place
-place_is : (r i n : ℕ) → i ≡ n → r ≡ i → r ≡ n
-place_is r i n e s = s ∙ e
+pub returns-clause-count : goal.returns-clause-count
+returns-clause-count c =
+    let a = c.args in
+    let far = be a.far in
+    let point =
+    IsPartitionPoint-from_clause (is_nearer a.node far) a.keys.now c.partition_point.result c.partition_point.ensures.partitioned
+    (nearer_partitioned a.node far 0 a.keys.now c.requires) (λ a r f k. search (rules, tests)) in
+    due (λ (n : ℕ). n) _ c.partition_point.result
+    (sym (partition_nearer a.node far a.keys.now c.partition_point.result c.partition_point.ensures.bound point)) (search rules)
 
-pub loop-i-init : goal.loop-i-init
-loop-i-init c = (search rules, count_start _ _ _ _)
-
-pub returns-then-at_most : goal.returns-then-at_most
-returns-then-at_most c =
-    let here =
-    count_here _ _ _ _ c.loop-i.i c.loop-i.invariant.1 c.loop-i-test.true c.requires _
-    c.key_at.ensures _ c.away-held.ensures
-    (leb-true _ _ (sym c.at_most.ensures ∙ c.if-at_most.true)) in
-    place_is _ c.loop-i.i _ here (search rules)
-
-pub loop-i-preserved : goal.loop-i-preserved
-loop-i-preserved c =
-    let next =
-    count_next _ _ _ _ c.loop-i.i c.loop-i.invariant.1 c.loop-i-test.true c.requires _
-    c.key_at.ensures _ c.away-held.ensures
-    (leb-false _ _ (sym c.at_most.ensures ∙ c.if-at_most.false)) in
-    (search rules, next)
-
-pub returns : goal.returns
-returns c =
-    count_end _ _ _ _ c.loop-i.i c.loop-i.invariant.1 c.loop-i.invariant.0 c.loop-i-test.false
+pub returns-clause-id : goal.returns-clause-id
+returns-clause-id c =
+    let node : (j : ℕ) → get_or c.args.node j 0 < 256 = λ j. let f : Fits w8 (get_or c.args.node j 0) = search rules in omega arith in
+    (search rules, bytes_all c.args.node node)

@@ -1,18 +1,14 @@
--- What the check does not find alone of `message_records::ordered`; the invariants beside it say how the loop goes. Assumes nothing.
-use mathlib.Core.Path.{sym, ◌∙◌}
-use borrow.Author.Rules.{rules}
-use Rattle.message_records.proofs.Offsets.{offset_falls, offset_rises, offsets_end}
+-- `message_records::ordered` meets its contract: a test of each pair of offsets tells the order (`proofs/Offsets.antt`). Assumes nothing.
+use Rattle.std.proofs.Common.{rules, ◌≡◌, ◌-◌, ◌∙◌, arith, refl, tests}
+use Rattle.std.proofs.lemmas.Iterator.{YieldsList-from_range}
+use Rattle.std.proofs.lemmas.Iterator.Search.{all_from_yields_List}
+use Rattle.message_records.proofs.Offsets.{rises, all_rise}
 use Rattle.message_records.proofs.ordered.Goals as goal
 
-pub returns-then-next-here : goal.returns-then-next-here
-returns-then-next-here c =
-    sym (c.loop-i.invariant
-    ∙ offset_falls _ _ _ c.loop-i.i _ _ c.offset_at-here.ensures c.offset_at-next.ensures (search rules) (search rules))
-
-pub loop-i-preserved : goal.loop-i-preserved
-loop-i-preserved c =
-    c.loop-i.invariant
-    ∙ offset_rises _ _ _ c.loop-i.i _ _ c.offset_at-here.ensures c.offset_at-next.ensures (search rules) (search rules)
-
 pub returns : goal.returns
-returns c = sym (c.loop-i.invariant ∙ offsets_end _ _ _ c.loop-i.i (search rules))
+returns c =
+    let l = c.args.list.now in
+    let n = c.args.count in
+    let many : c.args.count - 0 ≡ c.args.count = omega arith in
+    all_from_yields_List (rises l n) _ _ _ c.all.ensures.ran (YieldsList-from_range 0 n n refl many) (λ x b q k. search (rules, tests))
+    ∙ all_rise l n n 0 (omega arith)

@@ -1,23 +1,18 @@
 -- What the check does not find alone of `message_records::places`; the invariants beside it say how the loop goes. Assumes nothing.
 use Prim.Native.Nat.{◌≤◌}
 use native.Mathlib.Omega.{arith}
+use lib.ListN.{length}
 use borrow.Author.Rules.{rules}
-use Rattle.message.specs.Reading.{part_at}
 use Rattle.message_records.proofs.Offsets.{offsets_rise}
-use Rattle.message_records.proofs.Filled.{filled_none, filled_more, placed}
+use Rattle.message_records.proofs.Filled.{filled_more, placed}
 use Rattle.message_records.proofs.places.Goals as goal
 use Rattle.message_records.proofs.places.Goals.{After-offset_at-next}
 
-pub loop-i-init : goal.loop-i-init
-loop-i-init c = (search rules, filled_none _, filled_none _)
-
 -- the two offsets rise, and do not pass the size
 rise : (c : After-offset_at-next)
-    → (c.offset_at-start.result ≤ c.offset_at-next.result) × (c.offset_at-next.result ≤ c.args.size)
+    → (c.offset_at-start.result ≤ c.offset_at-next.result) × (c.offset_at-next.result ≤ length c.args.list.now)
 rise c =
-    let a = c.args in
-    let i = c.loop-i.i in
-    let r = offsets_rise (part_at a.s.now a.base a.size) a.size a.count i c.requires.size_value (search rules) in
+    let r = offsets_rise c.args.list.now c.args.count c.loop-i.i c.requires.in_order (search rules) in
     (omega arith, omega arith)
 
 pub overflow_add-starts : goal.overflow_add-starts
@@ -30,11 +25,9 @@ pub loop-i-preserved : goal.loop-i-preserved
 loop-i-preserved c =
     let here = c.offset_at-start.ensures in
     let next = c.offset_at-next.ensures in (
-      search rules,
-      filled_more _ c.loop-i.i _ (search rules) c.loop-i.invariant.1 _ (omega (arith, here)),
-      filled_more _ c.loop-i.i _ (search rules) c.loop-i.invariant.2 _ (omega (arith, here, next)),
+      filled_more _ c.loop-i.i _ (search rules) c.loop-i.invariant.0 _ (omega (arith, here)),
+      filled_more _ c.loop-i.i _ (search rules) c.loop-i.invariant.1 _ (omega (arith, here, next)),
     )
 
 pub returns : goal.returns
-returns c =
-    placed _ _ _ _ (search rules) _ _ c.loop-i.i (search rules) c.loop-i.invariant.1 c.loop-i.invariant.2
+returns c = placed _ _ _ (search rules) _ _ c.loop-i.i (search rules) c.loop-i.invariant.0 c.loop-i.invariant.1

@@ -10,4 +10,4 @@ pub returns : goal.returns
 unfolding offset_of
 returns c =
     let a = c.args in
-    (omega (arith, ap le c.part4.ensures, le_part 4 a.at a.s.now), c.le4.ensures.1)
+    (omega (arith, ap le c.part.ensures, le_part 4 a.at a.s.now), c.le4.ensures.1)

@@ -8,13 +8,13 @@ use Rattle.message_rules.proofs.Pairs.{Clear, Row, records}
 use Rattle.message_rules.proofs.some_equal.Given as goal
 
 abbrev pub invariant-loop-j : goal.invariant-loop-j
-invariant-loop-j l = (l.found ≡ false) × Row (records l.s l.starts l.lens l.count) l.count l.i l.j
+invariant-loop-j l = (l.found ≡ false) × Row (records l.bytes l.places) l.places.count l.i l.j
 
 abbrev pub decreases-loop-j : goal.decreases-loop-j
-decreases-loop-j l = l.count - l.j
+decreases-loop-j l = l.places.count - l.j
 
 abbrev pub invariant-pairs : goal.invariant-pairs
-invariant-pairs l = (l.found ≡ false) × Clear (records l.s l.starts l.lens l.count) l.count l.i
+invariant-pairs l = (l.found ≡ false) × Clear (records l.bytes l.places) l.places.count l.i
 
 abbrev pub decreases-pairs : goal.decreases-pairs
-decreases-pairs l = l.count - l.i
+decreases-pairs l = l.places.count - l.i

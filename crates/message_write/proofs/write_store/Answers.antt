@@ -9,12 +9,10 @@ use Rattle.message_write.proofs.write_store.Goals as goal
 
 pub returns-then-things-ne1 : goal.returns-then-things-ne1
 returns-then-things-ne1 c =
-    let a = c.args in
-    refused_writes ItemRule a.out.now
-    (store_bad a.connection a.content.now (length a.out.now) c.things.result (omega (arith, c.things.ensures)) (λ e. omega arith))
+    refused_writes ItemRule c.args.out.now
+    (store_bad c.args.connection c.args.content.now (length c.args.out.now) c.things.result (omega (arith, c.things.ensures)) (λ e. omega arith))
 
 pub returns : goal.returns
 returns c =
-    let a = c.args in
-    writes_as c.write_two.ensures.writes
-    (store_good a.connection a.content.now (length a.out.now) c.things.result (omega (arith, c.things.ensures)) (omega arith) _ c.store_head-head.ensures)
+    writes_as c.write_two.ensures
+    (store_good c.args.connection c.args.content.now (length c.args.out.now) c.things.result (omega (arith, c.things.ensures)) (omega arith) _ c.store_head.ensures)

@@ -1,36 +1,19 @@
--- What the check does not find alone of `octets::fill`; the invariants beside it say how the loop goes. Assumes nothing.
+-- `octets::fill` meets its contract: what is copied, and zeros behind it, are the bytes from the place on. Assumes nothing.
+use Prim.Native.Nat.{ℕ, ◌+◌}
 use native.Mathlib.Omega.{arith}
-use mathlib.Core.Path.{◌∙◌}
-use lib.ListN.{length, length-set}
-use lib.Seq.{paste-zero}
-use borrow.Author.Rules.{rules}
+use mathlib.Core.Path.{◌≡◌, ◌∙◌, ap, ap₂}
+use mathlib.Core.List.{List, ◌++◌}
+use lib.ListN.{length, take}
 use Rattle.octets.specs.Parts.{bytes_at}
-use Rattle.octets.proofs.Buffers.{copied_next, copied_all}
-use Rattle.octets.proofs.Parts.{bytes_at_length, bytes_at_get}
+use Rattle.octets.proofs.Parts.{bytes_at_over}
 use Rattle.octets.proofs.fill.Goals as goal
-
-pub loop-i-init : goal.loop-i-init
-loop-i-init c =
-    let a = c.args in
-    (search rules, search rules, search rules, paste-zero a.out.now 0 (bytes_at (length a.out.now) a.from a.bytes.now))
-
-pub loop-i-preserved : goal.loop-i-preserved
-loop-i-preserved c =
-    let a = c.args in
-    let n = length a.out.now in
-    let i = c.loop-i.i in (
-      search rules,
-      search rules,
-      simp length-set (search rules),
-      copied_next c.loop-i.out a.out.now (bytes_at n a.from a.bytes.now) i _ (search rules)
-          (omega (arith, bytes_at_length n a.from a.bytes.now, c.loop-i.invariant.0))
-          (omega (arith, c.byte.ensures, bytes_at_get n a.from a.bytes.now i (search rules))) c.loop-i.invariant.3,
-    )
 
 pub returns : goal.returns
 returns c =
-    let a = c.args in
-    let n = length a.out.now in
-    c.loop-i.invariant.3
-    ∙ copied_all a.out.now (bytes_at n a.from a.bytes.now) c.loop-i.i (search rules)
-    (omega (arith, bytes_at_length n a.from a.bytes.now))
+    let n = c.min-n.result in
+    let k = length c.split_at_mut-front.result.1.now in
+    let rest = c.behind-rest.ensures in
+    let whole : n + k ≡ length c.args.out.now = omega (arith, c.split_at_mut-front.ensures.back_len) in
+    ap₂ (λ (x y : List ℕ). x ++ y) (c.copy_from_slice.ensures.after ∙ ap (take n) rest) (c.fill.ensures.after (λ y e. e))
+    ∙ bytes_at_over n k c.args.from c.args.bytes.now (omega (arith, ap length rest))
+    ∙ ap (λ (m : ℕ). bytes_at m c.args.from c.args.bytes.now) whole

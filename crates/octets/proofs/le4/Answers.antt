@@ -1,4 +1,4 @@
--- `octets::le4` meets its contract: the sum is the number of the four bytes. Assumes nothing.
+-- `octets::le4` meets its contract: std's number of four bytes is the number of the four bytes. Assumes nothing.
 use native.Mathlib.Omega.{arith}
 use mathlib.Core.Path.{ap}
 use Rattle.octets.specs.Bytes.{le}
@@ -10,4 +10,4 @@ pub returns : goal.returns
 unfolding le
 returns c =
     let four = c.args.four in
-    omega (arith, ap le (bytes_at_all 4 four (search rules)))
+    omega (arith, ap le (bytes_at_all 4 four (search rules)), c.from_le_bytes.ensures)

@@ -1,25 +1,13 @@
--- `reply_records::asked` meets its contract: the records gathered are those of the entries that the places stand for. Assumes nothing.
-use native.Mathlib.Omega.{arith}
-use mathlib.Core.Path.{subst}
-use mathlib.Core.List.{List, ◌∷◌, map}
-use Rattle.routing_table.specs.View.{no_entry}
-use Rattle.routing_table.specs.declared.Entry.{Entry}
-use Rattle.routing_table.proofs.Firsts.{length_firsts}
-use Rattle.replies.specs.Chosen.{entry_record}
-use Rattle.reply_records.specs.Records.{Holds, sent}
+-- `reply_records::asked` meets its contract: the closure asks for a log distance. Assumes nothing.
+use Rattle.std.proofs.Common.{ℕ, Bool, List}
+use Rattle.distance.specs.Distance.{log_distance_of, asked_of}
 use Rattle.reply_records.proofs.asked.Goals as goal
 
-pub gather-requires : goal.gather-requires
-gather-requires c =
-    let t = c.args.table in
-    let n = length_firsts no_entry t.count t.entries in
-    let s = c.asked-places.ensures in
-    (s.few, s.room, λ i h. let p = s.inside i h in (omega arith, p.1))
-
 pub returns : goal.returns
-returns c few =
+returns c =
     let a = c.args in
-    let t = a.table in
-    let n = length_firsts no_entry t.count t.entries in
-    let s = c.asked-places.ensures in
-    subst (λ (es : List Entry). Holds (sent (a.own.now ∷ map entry_record es)) c.gather.result) (s.are (omega arith)) c.gather.ensures
+    let test : List ℕ → Bool = (λ (id : List ℕ). asked_of a.distances.now (log_distance_of a.table.now.own id)) in
+    record {
+      whole = λ few. c.found.ensures.whole test (record { told = λ id r p. p.1 }) few;
+      records = λ few. c.found.ensures.records test (record { told = λ id r p. p.1 }) few;
+    }

@@ -1,34 +1,21 @@
--- `rlp::check` meets its contract: each arm is the case of `content_by` that the header leads to; a whole header lies in the content. Assumes
--- nothing.
-use Prim.Native.Nat.{ℕ}
-use mathlib.Core.Path.{sym, ◌∙◌}
+-- `rlp::check` meets its contract: content is refused as its header is, and a whole header lies in the content. Assumes nothing.
+use mathlib.Core.Path.{◌≡◌, sym, ap, ◌∙◌}
 use borrow.Author.Rules.{rules}
-use Rattle.refusal.specs.Outcome.{refused}
-use Rattle.refusal.proofs.Due.{due}
-use Rattle.rlp.specs.declared.Header.TheVariants.{Wrong, Cut, Whole}
-use Rattle.rlp.proofs.Cases.{content_by_lem}
+use Rattle.std.specs.Prelude.{Err}
+use Rattle.refusal.specs.Outcome.{outcome_of}
+use Rattle.refusal.proofs.Outcomes.{was_given, was_refused}
+use Rattle.rlp.proofs.Cases.{refused_begun, whole_begun, content_by_lem}
 use Rattle.rlp.proofs.Headers.{header_within}
 use Rattle.rlp.proofs.check.Goals as goal
 
+pub returns-in_err-payload : goal.returns-in_err-payload
+returns-in_err-payload c = let e = was_refused _ c.header_in.ensures c.in_err-payload.was in
+    let k : c.from_residual.result ≡ Err c.in_err-payload.field-0.0 = search rules in
+    ap outcome_of k ∙ refused_begun _ e
+
 pub overflow_sub-content : goal.overflow_sub-content
-overflow_sub-content c =
-    (header_within c.args.content.now _
-    (sym c.header_in-header.ensures ∙ c.in-Whole.is)).all
+overflow_sub-content c = (header_within _ _ (whole_begun _ (was_given _ c.header_in.ensures c.in_ok-payload.was))).all
 
-pub returns-in-Wrong : goal.returns-in-Wrong
-returns-in-Wrong c =
-    due (λ (n : ℕ). refused n) _ 9
-    (sym (content_by_lem c.args.content.now Wrong (sym c.header_in-header.ensures ∙ c.in-Wrong.is)))
-    (search rules)
-
-pub returns-in-Cut : goal.returns-in-Cut
-returns-in-Cut c =
-    due (λ (n : ℕ). refused n) _ 16
-    (sym (content_by_lem c.args.content.now Cut (sym c.header_in-header.ensures ∙ c.in-Cut.is)))
-    (search rules)
-
-pub returns-in-Whole : goal.returns-in-Whole
-returns-in-Whole c =
-    c.filling.ensures
-    ∙ sym (content_by_lem c.args.content.now (Whole _)
-    (sym c.header_in-header.ensures ∙ c.in-Whole.is))
+pub returns : goal.returns
+returns c =
+    c.filling.ensures ∙ sym (content_by_lem _ _ (whole_begun _ (was_given _ c.header_in.ensures c.in_ok-payload.was)))

@@ -1,38 +1,43 @@
--- What the check does not find alone of `rlp::number`; the invariants beside it say how the loop goes. Assumes nothing.
-use Prim.Native.Nat.{ℕ, ◌+◌, ◌*◌}
-use mathlib.Core.Path.{◌≡◌, ◌∙◌, ap}
+-- `rlp::number` meets its contract: std's number of eight bytes is the number of the eight bytes, and zeros in front do not change it.
+-- Assumes nothing.
+use Prim.Native.Nat.{ℕ, ◌-◌, ◌≤◌}
 use native.Mathlib.Omega.{arith}
-use borrow.Author.Rules.{rules}
-use lib.ListN.{get_or, take}
+use mathlib.Core.List.{List, ◌++◌, append-nil}
+use mathlib.Core.Path.{◌≡◌, ap, ◌∙◌}
+use lib.ListN.{length, take, drop, replicate, length-append, length-take, length-drop, drop_of_length-le}
+use Rattle.std.specs.Int.{w64, from_be_bytes}
 use Rattle.octets.specs.Bytes.{be}
-use Rattle.rlp.proofs.Cases.{be_more, more_lt, more_fits}
+use Rattle.octets.proofs.Parts.{bytes_at_all}
+use Rattle.rlp.proofs.Cases.{be_behind}
+use borrow.Author.Rules.{rules}
 use Rattle.rlp.proofs.number.Goals as goal
 
-pub loop-i-init : goal.loop-i-init
+eight_be : (b : List ℕ) → length b ≡ 8 → from_be_bytes w64 b ≡ be b
 unfolding be
-loop-i-init c = search rules
+eight_be b h = omega (arith, ap be (bytes_at_all 8 b h))
 
-pub overflow_mul-n : goal.overflow_mul-n
-overflow_mul-n c = omega (arith, more_fits c.loop-i.n 0 c.loop-i.i (omega arith) (omega arith) (omega arith))
+-- bytes in the place of the last n of eight zeros
+abbrev eight : ℕ → List ℕ → List ℕ
+eight n s = take (8 - n) (replicate 8 0) ++ (s ++ drop (8 - (8 - n)) (drop (8 - n) (replicate 8 0)))
 
-pub overflow_cast-n : goal.overflow_cast-n
-overflow_cast-n c = omega (arith, c.type_inv.s c.loop-i.i)
+eight_is : (s : List ℕ) → eight (length s) s ≡ take (8 - length s) (replicate 8 0) ++ s
+eight_is s =
+    let zeros : List ℕ = replicate 8 0 in
+    ap (λ (l : List ℕ). take (8 - length s) zeros ++ l)
+    (ap (λ (l : List ℕ). s ++ l) (drop_of_length-le (drop (8 - length s) zeros) (omega (arith, length-drop (8 - length s) zeros))) ∙ append-nil s)
 
-pub overflow_add-n : goal.overflow_add-n
-overflow_add-n c =
-    let b = c.type_inv.s c.loop-i.i in
-    record { fits = more_fits c.loop-i.n (get_or c.args.s.now c.loop-i.i 0) c.loop-i.i (omega arith) (omega arith) (omega arith) }
-
-pub loop-i-preserved : goal.loop-i-preserved
-loop-i-preserved c =
-    let b = c.type_inv.s c.loop-i.i in
-    let s = c.args.s.now in (
-      search rules,
-      more_lt c.loop-i.n (get_or s c.loop-i.i 0) c.loop-i.i (omega arith) (omega arith),
-      ap (λ (n : ℕ). n * 256 + get_or s c.loop-i.i 0) c.loop-i.invariant.2 ∙ be_more s c.loop-i.i (search rules),
-    )
+eight_length : (s : List ℕ) → length s ≤ 8 → length (eight (length s) s) ≡ 8
+eight_length s h =
+    let zeros : List ℕ = replicate 8 0 in
+    ap (length {A = ℕ}) (eight_is s) ∙ omega (arith, length-append (take (8 - length s) zeros) s, length-take (8 - length s) zeros)
 
 pub returns : goal.returns
 returns c =
-    let e : c.loop-i.i ≡ c.args.k = omega arith in
-    c.loop-i.invariant.2 ∙ ap (λ (n : ℕ). be (take n c.args.s.now)) e
+    let s = c.args.s.now in
+    let part = c.copy_from_slice.new.self in
+    let same : part ≡ s = search rules in
+    let all : eight (length s) part ≡ eight (length s) s = ap (eight (length s)) same in
+    c.from_be_bytes.ensures
+    ∙ eight_be (eight (length s) part) (ap (length {A = ℕ}) all ∙ eight_length s c.requires)
+    ∙ ap be (all ∙ eight_is s)
+    ∙ be_behind 8 (8 - length s) s

@@ -1,6 +1,5 @@
--- `sha256::digest` meets its contract. The invariant: the bytes so far are those of the words so far, and the others zeros. The measure is what
--- is left of eight words. Assumes nothing.
-use Prim.Native.Nat.{◌*◌, ◌-◌, ◌≤◌}
+-- `sha256::digest` meets its contract. The invariant: the bytes so far are those of the words so far, and the others zeros. Assumes nothing.
+use Prim.Native.Nat.{◌*◌, ◌-◌}
 use mathlib.Core.Path.{◌≡◌}
 use mathlib.Core.List.{◌++◌}
 use lib.ListN.{length, take, replicate}
@@ -8,7 +7,4 @@ use Rattle.sha256.specs.Hash.{word_bytes}
 use Rattle.sha256.proofs.digest.Given as goal
 
 abbrev pub invariant-loop-i : goal.invariant-loop-i
-invariant-loop-i l = (l.i ≤ 8) × (length l.out ≡ 32) × (l.out ≡ word_bytes (take l.i l.words) ++ replicate (32 - 4 * l.i) 0)
-
-abbrev pub decreases-loop-i : goal.decreases-loop-i
-decreases-loop-i l = 8 - l.i
+invariant-loop-i l = (length l.out ≡ 32) × (l.out ≡ word_bytes (take l.i l.word-items) ++ replicate (32 - 4 * l.i) 0)

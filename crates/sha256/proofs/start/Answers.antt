@@ -5,4 +5,4 @@ use Rattle.sha256.proofs.start.Goals as goal
 
 pub returns : goal.returns
 unfolding state_of
-returns c = ap state_of c.start_words-words.ensures
+returns c = ap state_of c.start_words.ensures

@@ -1,13 +1,8 @@
 -- `sha256_block::first_sum` meets its contract: each sum is that of the definition, and so are the rotations and the choice. Assumes nothing.
-use Rattle.std.proofs.Common.{refl}
-use Rattle.sha256_block.specs.Words.{SHR, SHL, ROTR, NOT, Ch, Σ1}
+use Rattle.sha256_block.specs.Words.{◌⊞◌, SHR, SHL, ROTR, NOT, Ch, Σ1}
 use Rattle.sha256_block.specs.Block.{T1}
-use Rattle.sha256_block.proofs.Sums.{sum_is}
 use Rattle.sha256_block.proofs.first_sum.Goals as goal
 
 pub returns : goal.returns
-unfolding SHR SHL ROTR NOT Ch Σ1 T1
-returns c = sum_is _ _ _ _ _ c.wrapping_add_u32-3.ensures.value
-    (sum_is _ _ _ _ _ c.wrapping_add_u32-2.ensures.value
-    (sum_is _ _ _ _ _ c.wrapping_add_u32-sum.ensures.value
-    (sum_is _ _ _ _ _ c.wrapping_add_u32.ensures.value refl refl) refl) refl) refl
+unfolding ◌⊞◌ SHR SHL ROTR NOT Ch Σ1 T1
+returns c = cc

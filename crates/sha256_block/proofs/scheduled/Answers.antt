@@ -6,15 +6,15 @@ use Rattle.sha256_block.proofs.scheduled.Goals as goal
 
 pub loop-n-init : goal.loop-n-init
 unfolding schedule
-loop-n-init c = (search rules, c.opening-words.ensures)
+loop-n-init c = c.opening-words.ensures
 
 pub loop-n-preserved : goal.loop-n-preserved
 unfolding next_word
 loop-n-preserved c =
-    (search rules, schedule_more c.args.block.now c.loop-n.words c.loop-n.n _ (search rules) c.loop-n.invariant.1 c.next_word.ensures)
+    schedule_more c.args.block.now c.loop-n.words c.loop-n.n _ (search rules) c.loop-n.invariant c.next_word.ensures
 
 pub returns : goal.returns
 returns c =
     let all : c.loop-n.n ≡ 48 = search rules in
     let block = c.args.block.now in
-    c.loop-n.invariant.1 ∙ ap (λ (k : ℕ). schedule block k ++ replicate (48 - k) 0) all ∙ append-nil (schedule block 48)
+    c.loop-n.invariant ∙ ap (λ (k : ℕ). schedule block k ++ replicate (48 - k) 0) all ∙ append-nil (schedule block 48)

@@ -1,11 +1,11 @@
--- `message_write::heads::store_head` meets its contract: the four bytes written out are the connection id. Assumes nothing.
+-- `message_write::heads::store_head` meets its contract: the id stands behind the type, and the offset behind the id. Assumes nothing.
 use Prim.Native.Nat.{ℕ}
 use mathlib.Core.Path.{ap}
 use mathlib.Core.List.{List, ◌∷◌, ◌++◌}
+use borrow.Author.Rules.{rules}
 use Rattle.octets.specs.Bytes.{le_bytes}
 use Rattle.octets.proofs.Parts.{bytes_at_all}
 use Rattle.message.specs.Encode.{offset}
-use borrow.Author.Rules.{rules}
 use Rattle.message_write.proofs.heads.store_head.Goals as goal
 
 pub returns : goal.returns

@@ -1,27 +1,28 @@
--- What the check does not find alone of `message_write::parts::list_size`; the invariants beside it say how the loop goes. Assumes nothing.
+-- `message_write::parts::list_size` meets its contract: small records have no large sum. Assumes nothing.
+use Prim.Native.Nat.{◌≤◌}
 use native.Mathlib.Omega.{arith}
-use mathlib.Core.Path.{◌≡◌, ap}
-use Rattle.message_write.specs.Parts.{sum_to}
-use Rattle.message_write.proofs.Sums.{sum_none, sum_more}
+use mathlib.Core.Path.{◌≡◌}
+use lib.ListN.{take}
 use borrow.Author.Rules.{rules}
+use Rattle.std.specs.List.{sum}
+use Rattle.message_write.specs.Parts.{sum_to}
+use Rattle.message_write.proofs.Sums.{sum_first, sum_small}
 use Rattle.message_write.proofs.parts.list_size.Goals as goal
 
-pub loop-i-init : goal.loop-i-init
-loop-i-init c = let z = sum_none c.args.lens.now in (search rules, search rules, search rules)
+pub total-requires : goal.total-requires
+total-requires c =
+    let p = c.args.records.now in
+    omega (arith, sum_first p.lens p.count (search rules), sum_small p c.requires)
 
-pub overflow_add-size : goal.overflow_add-size
-overflow_add-size c =
-    omega (arith, c.requires.2 c.loop-i.i (search rules))
-
-pub loop-i-preserved : goal.loop-i-preserved
-loop-i-preserved c =
-    let more = sum_more c.args.lens.now c.loop-i.i in
-    let small = c.requires.2 c.loop-i.i (search rules) in
-    (search rules, omega arith, omega arith)
+pub overflow_add-result : goal.overflow_add-result
+overflow_add-result c =
+    let p = c.args.records.now in
+    let small : sum (take p.count p.lens) ≤ 9600 = omega (arith, sum_first p.lens p.count (search rules), sum_small p c.requires) in
+    search rules
 
 pub returns : goal.returns
 returns c =
-    let a = c.args in
-    let last : c.loop-i.i ≡ a.count = omega arith in
-    let all = ap (sum_to a.lens.now) last in
+    let p = c.args.records.now in
+    let same : sum (take p.count p.lens) ≡ sum_to p.lens p.count = sum_first p.lens p.count (search rules) in
+    let small = sum_small p c.requires in
     (omega arith, omega arith)

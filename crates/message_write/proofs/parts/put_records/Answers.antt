@@ -1,59 +1,67 @@
--- What the check does not find alone of `message_write::parts::put_records`; the invariants beside it say how the loop goes. Assumes nothing.
-use Prim.Native.Nat.{◌+◌, ◌≤◌}
+-- What the check does not find alone of `message_write::parts::put_records`; the invariant beside it says how the loop goes. Assumes nothing.
+use Prim.Native.Nat.{ℕ, ◌+◌, ◌<◌, ◌≤◌}
 use native.Mathlib.Omega.{arith}
-use lib.ListN.{length, get_or}
-use Rattle.message_rules.proofs.Places.{part_between}
-use Rattle.message_write.proofs.Turns.{records_start, records_fit, records_next, records_end}
+use mathlib.Core.Path.{◌≡◌, refl, ap₂, subst, ◌∙◌}
+use mathlib.Core.List.{[], ◌∷◌, ◌++◌}
+use lib.ListN.{length, get_or, take, length-append}
+use lib.Seq.{length-take-le, get_or-take}
 use borrow.Author.Rules.{rules}
+use Rattle.std.proofs.lemmas.Slice.Zip.{zip_turn, zip_end}
+use Rattle.message.specs.Reading.{part_at}
+use Rattle.message_rules.proofs.Places.{part_between}
+use Rattle.message_write.proofs.Turns.{Records, records_start, records_fit, records_next, records_end}
 use Rattle.message_write.proofs.parts.put_records.Goals as goal
-use Rattle.message_write.proofs.parts.put_records.Goals.{In-loop-i}
+use Rattle.message_write.proofs.parts.put_records.Goals.{In-Some}
 
--- there is room for the next record, and it is within the bytes
-fit : (c : In-loop-i)
-    → (c.loop-i.next + get_or c.args.lens.now c.loop-i.i 0 ≤ length c.args.out.now)
-    × (get_or c.args.starts.now c.loop-i.i 0 + get_or c.args.lens.now c.loop-i.i 0
-    ≤ length c.args.bytes.now)
+-- the record of this turn
+record Turn (c : In-Some) : Type 0 where
+  here : length c.loop-start.yielded < c.args.records.now.count
+  start : c.in-Some.start.now ≡ get_or c.args.records.now.starts (length c.loop-start.yielded) 0
+  len : c.in-Some.len.now ≡ get_or c.args.records.now.lens (length c.loop-start.yielded) 0
+
+turn : (c : In-Some) → Turn c
+turn c =
+    let p = c.args.records.now in
+    let t = zip_turn (take p.count p.starts) (take p.count p.lens) c.loop-start.yielded c.into_iter-start-iterator.result c.loop-start.start-iterator c.next.new.self c.next.result
+    (search rules) (search rules) c.loop-start.yielded_by _ c.in-Some.is c.next.ensures.steps in
+    let h : length c.loop-start.yielded < c.args.records.now.count = omega (arith, length-take-le p.count p.starts (search rules)) in
+    record {
+      here = h;
+      start = t.2 0 ∙ get_or-take p.count p.starts (length c.loop-start.yielded) 0 h;
+      len = t.3 0 ∙ get_or-take p.count p.lens (length c.loop-start.yielded) 0 h;
+    }
+
+-- there is room for it, and it is within the bytes
+fit : (c : In-Some)
+    → (c.loop-start.next + c.in-Some.len.now ≤ length c.args.out.now) × (c.in-Some.start.now + c.in-Some.len.now ≤ length c.args.bytes.now)
 fit c =
-    let a = c.args in
-    records_fit a.bytes.now a.starts.now a.lens.now a.count a.at a.out.now _ _ _ c.loop-i.invariant c.loop-i-test.true
+    let t = turn c in
+    let f = records_fit c.args.bytes.now c.args.records.now c.args.at c.args.out.now _ _ _ c.loop-start.invariant t.here in
+    (omega arith, omega arith)
 
-pub loop-i-init : goal.loop-i-init
-loop-i-init c =
-    let a = c.args in
-    records_start a.bytes.now a.starts.now a.lens.now a.count a.at a.out.now _ (omega arith) c.requires.0 c.requires.1
-
-pub overflow_add-end : goal.overflow_add-end
-overflow_add-end c =
-    let f = fit (goal.at.overflow_add-end c).In-loop-i in
-    search rules
-
-pub slice_bounds-put-count : goal.slice_bounds-put-count
-slice_bounds-put-count c =
-    let f = fit (goal.at.slice_bounds-put-count c).In-loop-i in
-    search rules
-
-pub slice_bounds-put-start : goal.slice_bounds-put-start
-slice_bounds-put-start c =
-    let f = fit (goal.at.slice_bounds-put-start c).In-loop-i in
-    search rules
-
-pub slice_bounds-put-end : goal.slice_bounds-put-end
-slice_bounds-put-end c =
-    let f = fit (goal.at.slice_bounds-put-end c).In-loop-i in
-    search rules
+pub loop-start-init : goal.loop-start-init
+loop-start-init c = records_start _ _ _ _ _ refl c.requires.0.inside c.requires.1
 
 pub overflow_add-next : goal.overflow_add-next
 overflow_add-next c =
-    let f = fit (goal.at.overflow_add-next c).In-loop-i in
+    let f = fit (goal.at.overflow_add-next c).In-Some in
     search rules
 
-pub loop-i-preserved : goal.loop-i-preserved
-loop-i-preserved c =
-    let a = c.args in
-    records_next a.bytes.now a.starts.now a.lens.now a.count a.at a.out.now _ _ _ c.loop-i.invariant (search rules) _ _ _
-    (part_between a.bytes.now (get_or a.starts.now c.loop-i.i 0) (get_or a.lens.now c.loop-i.i 0)) c.put.ensures.out_after (omega arith) _ (omega arith)
+pub loop-start-preserved : goal.loop-start-preserved
+loop-start-preserved c =
+    let w = (goal.at.loop-start-preserved c).In-Some in
+    let t = turn w in
+    let more : length c.loop-start.yielded + 1 ≡ length (c.loop-start.yielded ++ ((c.in-Some.start, c.in-Some.len) ∷ [])) =
+    omega (arith, length-append c.loop-start.yielded ((c.in-Some.start, c.in-Some.len) ∷ [])) in
+    subst (λ (k : ℕ). Records c.args.bytes.now c.args.records.now c.args.at c.args.out.now c.put.new.out (c.loop-start.next + c.in-Some.len.now) k) more
+    (records_next _ _ _ _ _ _ _ c.loop-start.invariant t.here _ _ _
+    (part_between c.args.bytes.now c.in-Some.start.now c.in-Some.len.now ∙ ap₂ (part_at c.args.bytes.now) t.start t.len)
+    c.put.ensures.out_after refl _ (omega arith))
 
 pub returns : goal.returns
 returns c =
-    let a = c.args in
-    records_end a.bytes.now a.starts.now a.lens.now a.count a.at a.out.now _ _ _ c.loop-i.invariant (search rules)
+    let p = c.args.records.now in
+    let n = zip_end (take p.count p.starts) (take p.count p.lens) c.loop-start.yielded c.into_iter-start-iterator.result c.loop-start.start-iterator c.next.new.self c.next.result
+    (search rules) (search rules) c.loop-start.yielded_by c.in-None.is c.next.ensures.steps in
+    records_end _ _ _ _ _ _ _ c.loop-start.invariant
+    (omega (arith, length-take-le p.count p.starts (search rules), length-take-le p.count p.lens (search rules)))

@@ -1,52 +1,44 @@
--- `message_write::parts::write_list` meets its contract: the answer on the size decides, and head, offsets, records and rest are put one behind the other
--- (`proofs/Wholes.antt`). Assumes nothing.
-use Prim.Native.Nat.{ℕ, ◌+◌, ◌≤◌}
+-- `message_write::parts::write_list` meets its contract: the size decides, and then the parts stand one behind the other. Assumes nothing.
+use Prim.Native.Nat.{◌+◌}
 use native.Mathlib.Omega.{arith}
 use lib.ListN.{length}
-use Rattle.message_write.proofs.Wholes.{whole_refused, whole_room, whole_wrote}
 use borrow.Author.Rules.{rules}
+use Rattle.message_write.proofs.Answers.{Accepted, passed_on}
+use Rattle.message_write.proofs.Wholes.{whole_refused, whole_room, whole_wrote}
 use Rattle.message_write.proofs.parts.write_list.Goals as goal
-use Rattle.message_write.proofs.parts.write_list.Goals.{In-Accepted}
+use Rattle.message_write.proofs.parts.write_list.Goals.{In_ok-size}
 
 -- the whole fits the buffer
-abbrev size : In-Accepted → ℕ
-size c = length c.args.head.now + c.list_size-size.result + length c.args.rest.now
-
-room : (c : In-Accepted) → (size c ≤ 1280) × (size c ≤ length c.args.out.now)
+room : (c : In_ok-size)
+    → Accepted c.in_ok-size.size (length c.args.head.now + c.list_size-list.result + length c.args.rest.now) (length c.args.out.now)
 room c =
     let a = c.args in
-    whole_room a.head.now a.bytes.now a.starts.now a.lens.now a.count a.rest.now a.out.now c.requires.1
-    _ c.list_size-size.ensures.0 _ c.size_checked-checked.ensures c.in-Accepted.is
+    whole_room a.head.now a.bytes.now a.records.now a.rest.now a.out.now c.requires.1.inside _ c.list_size-list.ensures.0 _ c.in_ok-size.ensures
+
+pub list_size-list-requires : goal.list_size-list-requires
+list_size-list-requires c = c.requires.1.small
+
+pub returns-in_err-size : goal.returns-in_err-size
+returns-in_err-size c =
+    let a = c.args in
+    passed_on _ _ (search rules)
+    (whole_refused a.head.now a.bytes.now a.records.now a.rest.now a.out.now c.requires.1.inside _ c.list_size-list.ensures.0 _ c.in_err-size.ensures)
 
 pub put_offsets-requires : goal.put_offsets-requires
 put_offsets-requires c =
-    let fits = room (goal.at.put_offsets-requires c).In-Accepted in
-    let size = c.list_size-size.ensures.0 in
-    (search rules, search rules, omega arith)
+    let r = room (goal.at.put_offsets-requires c).In_ok-size in
+    let list = c.list_size-list.ensures.0 in
+    (c.requires.1.small, omega (arith, r.fits))
 
 pub put_records-requires : goal.put_records-requires
 put_records-requires c =
-    let fits = room (goal.at.put_records-requires c).In-Accepted in
-    let kept = c.put_offsets.ensures.kept in
-    let size = c.list_size-size.ensures.0 in
-    (c.requires.1, omega arith)
+    let r = room (goal.at.put_records-requires c).In_ok-size in
+    let list = c.list_size-list.ensures.0 in
+    (c.requires.1, omega (arith, r.fits, c.put_offsets.ensures.kept))
 
-pub overflow_add-result-in-Accepted : goal.overflow_add-result-in-Accepted
-overflow_add-result-in-Accepted c =
-    let fits = room (goal.at.overflow_add-result-in-Accepted c).In-Accepted in
-    search rules
-
-pub returns-in-Refused : goal.returns-in-Refused
-returns-in-Refused c =
+pub returns : goal.returns
+returns c =
     let a = c.args in
-    whole_refused a.head.now a.bytes.now a.starts.now a.lens.now a.count a.rest.now a.out.now c.requires.1
-    _ c.list_size-size.ensures.0 _ c.size_checked-checked.ensures _ c.in-Refused.is
-
-pub returns-in-Accepted : goal.returns-in-Accepted
-returns-in-Accepted c =
-    let a = c.args in
-    whole_wrote a.head.now a.bytes.now a.starts.now a.lens.now a.count a.rest.now a.out.now c.requires.1
-    _ c.list_size-size.ensures.0 _ c.size_checked-checked.ensures c.in-Accepted.is
-    _ _ _ _ _ _ _ _ _
-    c.put.ensures.out_after c.put_offsets.ensures c.put_records.ensures c.put-in-Accepted.ensures.out_after
-    (omega arith) (omega arith) (omega arith) (omega arith) (omega arith)
+    whole_wrote a.head.now a.bytes.now a.records.now a.rest.now a.out.now c.requires.1.inside _ c.list_size-list.ensures.0 _ c.in_ok-size.ensures
+    _ _ _ _ _ _ _ _ _ c.put.ensures.out_after c.put_offsets.ensures c.put_records.ensures c.put-2.ensures.out_after
+    (search rules) (search rules) (search rules) (search rules) (search rules)

@@ -1,39 +1,20 @@
 -- `message_write::records::lent_records` meets its contract: each return is a law of `proofs/Loans.antt`, from the tests that led there. Assumes nothing.
-use mathlib.Core.Path.{ap}
-use mathlib.Core.Bool.{not}
-use Rattle.message_write.proofs.Loans.{unlent_as, lent_even, lent_layout, lent_many, lent_bad, lent_good}
-use borrow.Author.Rules.{rules}
+use mathlib.Core.Path.{refl, sym, ◌∙◌}
+use Rattle.message_write.proofs.Loans.{lent_layout, lent_many, lent_bad, lent_good}
 use Rattle.message_write.proofs.records.lent_records.Goals as goal
 
 pub returns-then-not-all_within : goal.returns-then-not-all_within
-returns-then-not-all_within c =
-    let a = c.args in
-    unlent_as c.unlent.ensures (lent_layout a.bytes.now a.starts.now a.lens.now _ c.all_within.ensures (ap not c.if-not-all_within.true))
-    (search rules)
+returns-then-not-all_within c = lent_layout _ _ _ (sym c.all_within.ensures ∙ c.if-not-all_within.true)
 
 pub returns-then-count-gt32 : goal.returns-then-count-gt32
-returns-then-count-gt32 c =
-    let a = c.args in
-    unlent_as c.unlent-then-count-gt32.ensures
-    (lent_many a.bytes.now a.starts.now a.lens.now _ c.all_within.ensures (ap not c.if-not-all_within.false) (search rules))
-    (search rules)
-
-pub copied-sizes-requires : goal.copied-sizes-requires
-copied-sizes-requires c =
-    let a = c.args in
-    let even = lent_even a.bytes.now a.starts.now a.lens.now _ c.all_within.ensures (ap not c.if-not-all_within.false) in
-    search rules
+returns-then-count-gt32 c = lent_many _ _ _ (sym c.all_within.ensures ∙ c.if-not-all_within.false) c.if-count-gt32.true
 
 pub returns-then-not-good_records : goal.returns-then-not-good_records
 returns-then-not-good_records c =
-    let a = c.args in
-    unlent_as c.unlent-then-not-good_records.ensures
-    (lent_bad a.bytes.now a.starts.now a.lens.now _ c.all_within.ensures (ap not c.if-not-all_within.false) (search rules)
-    _ _ c.copied-begins.ensures c.copied-sizes.ensures _ c.good_records.ensures (ap not c.if-not-good_records.true))
-    (search rules)
+    lent_bad _ _ _ (sym c.all_within.ensures ∙ c.if-not-all_within.false) c.if-count-gt32.false _ refl c.copied.ensures c.copied-2.ensures
+    (sym c.good_records.ensures ∙ c.if-not-good_records.true)
 
 pub returns : goal.returns
 returns c =
-    let a = c.args in
-    lent_good a.bytes.now a.starts.now a.lens.now _ c.all_within.ensures (ap not c.if-not-all_within.false) (search rules)
-    _ _ c.copied-begins.ensures c.copied-sizes.ensures _ c.good_records.ensures (ap not c.if-not-good_records.false)
+    lent_good _ _ _ (sym c.all_within.ensures ∙ c.if-not-all_within.false) c.if-count-gt32.false _ refl c.copied.ensures c.copied-2.ensures
+    (sym c.good_records.ensures ∙ c.if-not-good_records.false)

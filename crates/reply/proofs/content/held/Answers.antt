@@ -26,7 +26,7 @@ way n e = ⊎_elim (λ w. inr w.1) (λ h. inl (omega arith)) e
 pub returns-then-le4-eq0 : goal.returns-then-le4-eq0
 returns-then-le4-eq0 c =
     let zero : le c.args.connection ≡ 0 = omega (arith, c.le4.ensures) in
-    refused_replies {right = Unusable} c.args.out.now c.refused.ensures (search rules)
+    refused_replies Unusable c.args.out.now (search rules)
     (ap (in_room _) (held_none c.args.content.now c.args.connection (way _ c.else-content-gt0.either) zero))
 
 pub alone-requires-2 : goal.alone-requires-2

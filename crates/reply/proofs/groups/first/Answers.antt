@@ -5,13 +5,13 @@ use mathlib.Core.Logic.{inl, inr}
 use borrow.Author.Tests.{ltb-false}
 use Rattle.reply.proofs.Taking.{taking_start, taking_end, taking_stop, taking_next}
 use Rattle.reply.proofs.groups.first.Goals as goal
-use Rattle.reply.proofs.groups.first.Goals.{then-i-ge32-via-then-i-ge32, then-i-ge32-via-else-i-ge32+then-size-lens-gt1280}
+use Rattle.reply.proofs.groups.first.Goals.{then-i-ge32-via-then-i-ge32, then-i-ge32-via-else-i-ge32+then-size-len-gt1280}
 
 pub loop-i-init : goal.loop-i-init
 loop-i-init c = taking_start _ _ (omega arith)
 
-pub overflow_add-lens : goal.overflow_add-lens
-overflow_add-lens c =
+pub overflow_add-len : goal.overflow_add-len
+overflow_add-len c =
     omega (arith, c.requires.1 c.loop-i.i (omega arith))
 
 pub overflow_add-size : goal.overflow_add-size
@@ -21,7 +21,7 @@ overflow_add-size c =
 -- the next one does not fit: there are 32, or its bytes are too many
 pub returns-then-i-ge32 : goal.returns-then-i-ge32
 returns-then-i-ge32 c =
-    taking_stop _ _ _ _ c.loop-i.invariant (omega arith) _ refl (elim c.then-i-ge32.branch [ then-i-ge32-via-then-i-ge32 w ↦ inl w.if-i-ge32.true | then-i-ge32-via-else-i-ge32+then-size-lens-gt1280 w ↦ inr (omega arith) ]) _ refl refl
+    taking_stop _ _ _ _ c.loop-i.invariant (omega arith) _ refl (elim c.then-i-ge32.branch [ then-i-ge32-via-then-i-ge32 w ↦ inl w.if-i-ge32.true | then-i-ge32-via-else-i-ge32+then-size-len-gt1280 w ↦ inr (omega arith) ]) _ refl refl
 
 pub overflow_add-size-in-loop-i : goal.overflow_add-size-in-loop-i
 overflow_add-size-in-loop-i c =

@@ -25,26 +25,26 @@ own_sends c =
     sendable_is own (sym tested ∙ c.if-not-record_fits.false)
 
 own_holds : (c : After-asked-then-asked)
-    → Holds (once (c.args.own.now ∷ asked_records (view c.args.table) c.args.own.now c.args.distances.now)) c.asked-then-asked.result
+    → Holds (once (c.args.own.now ∷ asked_records (view c.args.table.now) c.args.own.now c.args.distances.now)) c.asked-then-asked.result
 own_holds c =
-    let v = view c.args.table in
-    copied_own _ _ c.well_formed.0 c.requires v.own (is_asked v c.args.distances.now) c.asked-then-asked.result _ (own_sends c) c.asked-then-asked.ensures
+    let v = view c.args.table.now in
+    copied_own _ c.requires v.own (is_asked v c.args.distances.now) c.asked-then-asked.result c.asked-then-asked.ensures.whole _ (own_sends c) c.asked-then-asked.ensures.records
 
 holds : (c : After-asked-2)
-    → Holds (once (asked_records (view c.args.table) c.args.own.now c.args.distances.now)) c.asked-2.result
+    → Holds (once (asked_records (view c.args.table.now) c.args.own.now c.args.distances.now)) c.asked-2.result
 holds c =
-    let v = view c.args.table in
-    copied _ _ c.well_formed.0 c.requires v.own (is_asked v c.args.distances.now) c.asked-2.result c.asked-2.ensures
+    let v = view c.args.table.now in
+    copied _ c.requires v.own (is_asked v c.args.distances.now) c.asked-2.result c.asked-2.ensures.whole c.asked-2.ensures.records
 
 pub returns-then-not-record_fits : goal.returns-then-not-record_fits
 returns-then-not-record_fits c =
     let fits = c.record_fits in
     let tested : fits.result ≡ sendable c.args.own.now = search rules in
-    refused_replies {right = Unusable} c.args.out.now c.refused.ensures (search rules)
+    refused_replies Unusable c.args.out.now (search rules)
     (ap (in_room _) (nodes_refused _ c.args.own.now _ _ c.asked.ensures c.if-asked.true (sym tested ∙ c.if-not-record_fits.true)))
 
 pub send-requires : goal.send-requires
-send-requires c = holds_found _ _ (own_holds (goal.at.send-requires c).After-asked-then-asked) (with_own _ _ (own_sends (goal.at.send-requires c).After-asked-then-asked) (records_send _ _ c.well_formed.0 c.requires _ _ c.asked-then-asked.result))
+send-requires c = holds_found _ _ (own_holds (goal.at.send-requires c).After-asked-then-asked) (with_own _ _ (own_sends (goal.at.send-requires c).After-asked-then-asked) (records_send _ c.requires _ _ c.asked-then-asked.result c.asked-then-asked.ensures.whole))
 
 pub returns-then-asked : goal.returns-then-asked
 returns-then-asked c =
@@ -52,7 +52,7 @@ returns-then-asked c =
     (ap (in_room _) (nodes_own _ c.args.own.now _ _ c.asked.ensures c.if-asked.true (own_sends (goal.at.returns-then-asked c).After-asked-then-asked) _ (own_holds (goal.at.returns-then-asked c).After-asked-then-asked).are))
 
 pub send-requires-2 : goal.send-requires-2
-send-requires-2 c = holds_found _ _ (holds (goal.at.send-requires-2 c).After-asked-2) (records_send _ _ c.well_formed.0 c.requires _ _ c.asked-2.result)
+send-requires-2 c = holds_found _ _ (holds (goal.at.send-requires-2 c).After-asked-2) (records_send _ c.requires _ _ c.asked-2.result c.asked-2.ensures.whole)
 
 pub returns : goal.returns
 returns c =

@@ -1,44 +1,39 @@
 -- `routing_calls::failing::failed` meets its contract: each way out is a case of the definition (`proofs/Misses.antt`), by what the survey
 -- tells (`proofs/Told.antt`). Assumes nothing.
-use mathlib.Core.Path.{refl, sym, ◌∙◌}
+use mathlib.Core.Path.{◌≡◌, sym, ap, ◌∙◌}
 use borrow.Author.Rules.{rules}
-use borrow.Author.Tests.{not-true, not-false}
-use Rattle.routing_table.proofs.Looked.{survey_good}
-use Rattle.routing_calls.proofs.Told.{Told, told_facts, good_count, good_waiting, good_failures}
-use Rattle.routing_calls.proofs.Misses.{answers, miss_refused, failed_bad, failed_own, failed_none, failed_at}
+use Rattle.std.specs.Prelude.{Result, Err}
+use Rattle.distance.specs.Distance.{log_distance_of}
+use Rattle.refusal.specs.declared.Refusal.{Refusal}
+use Rattle.refusal.specs.declared.Refusal.TheVariants.{BadState}
+use Rattle.routing_calls.specs.declared.Failure.{Failure}
+use Rattle.routing_calls.specs.FailedFor.{given_by, meaning_of}
+use Rattle.routing_calls.proofs.Told.{entry_used, newest_used}
+use Rattle.routing_calls.proofs.Misses.{miss_refused, failed_bad, failed_own, failed_none, failed_at}
 use Rattle.routing_calls.proofs.failing.failed.Goals as goal
-use Rattle.routing_calls.proofs.failing.failed.Goals.{Else-not-told}
 
--- where the table is good
-told : (c : Else-not-told) → Told c.args.table c.args.id c.survey-told.result
-told c = told_facts _ _ _ c.survey-told.ensures (not-false _ c.if-not-told.false)
-
-pub returns-then-not-told : goal.returns-then-not-told
-returns-then-not-told c =
-    let e = c.survey-told.ensures in
-    let bad = sym (survey_good _ _ _ e) ∙ not-true _ c.if-not-told.true in
-    let a = miss_refused _ _ _ _ _ c.kept.ensures (search rules) (failed_bad _ _ bad) in
-    record { result_value = a.value; by_value = a.by }
+pub returns-in_err-told : goal.returns-in_err-told
+returns-in_err-told c =
+    let bad = c.in_err-told.ensures in
+    let r : c.from_residual.result ≡ Err BadState = search rules in
+    ap (λ (x : Result Failure Refusal). meaning_of x c.args.table.now) r ∙ miss_refused _ _ (search rules) (failed_bad _ _ bad.1)
 
 pub returns-then-told : goal.returns-then-told
 returns-then-told c =
-    let t = told (goal.at.returns-then-told c).Else-not-told in
-    let a = miss_refused _ _ _ _ _ c.kept-then-told.ensures (search rules) (failed_own _ _ t.kept (sym t.own ∙ search rules)) in
-    record { result_value = a.value; by_value = a.by }
+    let t = c.in_ok-told.ensures in
+    miss_refused _ _ (search rules) (failed_own _ _ t.kept (sym t.own ∙ search rules))
 
-pub returns-then-table-told : goal.returns-then-table-told
-returns-then-table-told c =
-    let t = told (goal.at.returns-then-table-told c).Else-not-told in
-    let a = miss_refused _ _ _ _ _ c.kept-then-table-told.ensures (search rules) (failed_none _ _ t.kept (sym t.own ∙ search rules) _ t.entry (search rules)) in
-    record { result_value = a.value; by_value = a.by }
+pub returns-in_default : goal.returns-in_default
+returns-in_default c =
+    let t = c.in_ok-told.ensures in
+    miss_refused _ _ (search rules) (failed_none _ _ t.kept (sym t.own ∙ search rules) _ t.entry c.in_default.is)
 
 pub failing-requires : goal.failing-requires
 failing-requires c =
-    let t = told (goal.at.failing-requires c).Else-not-told in
-    (search rules, good_count _ t.kept, good_waiting _ t.kept, good_failures _ t.kept _ (search rules))
+    let t = c.in_ok-told.ensures in
+    record { kept = t.kept; sized = t.sized; used = entry_used c.args.table.now _ _ t.entry c.in-Some.is; recent = λ from e. newest_used c.args.table.now _ _ t.newest (search rules) }
 
 pub returns : goal.returns
 returns c =
-    let t = told (goal.at.returns c).Else-not-told in
-    let a = answers refl (failed_at _ _ t.kept (sym t.own ∙ search rules) _ t.entry (search rules)) (c.failing.ensures _ (search rules)) in
-    record { result_value = a.value; by_value = a.by }
+    let t = c.in_ok-told.ensures in
+    c.failing.ensures (log_distance_of c.args.table.now.own c.args.id) (search rules) ∙ ap (given_by c.args.table.now) (sym (failed_at _ _ t.kept (sym t.own ∙ search rules) _ t.entry c.in-Some.is))

@@ -1,25 +1,20 @@
 -- `routing_calls::seeing::seen` meets its contract: each way out is a case of the definition (`proofs/Sightings.antt`), by what the survey
 -- tells (`proofs/Told.antt`). Assumes nothing.
+use Prim.Native.Nat.{◌<◌}
+use native.Mathlib.Omega.{arith}
 use mathlib.Core.Path.{◌≡◌, sym, ap, ◌∙◌}
 use mathlib.Core.Bool.{true, false}
 use borrow.Author.Rules.{rules}
-use borrow.Author.Tests.{not-true, not-false}
-use Rattle.routing_table.specs.Good.{sized}
-use Rattle.routing_table.proofs.Looked.{survey_good}
+use Rattle.std.specs.Prelude.{Result, Err}
+use Rattle.refusal.specs.declared.Refusal.{Refusal}
+use Rattle.refusal.specs.declared.Refusal.TheVariants.{BadState}
 use Rattle.routing_calls.specs.SeenFor.{meaning_of}
-use Rattle.routing_table.proofs.Mapped.{length_mapped}
-use Rattle.routing_calls.proofs.Views.{Sized}
-use Rattle.routing_calls.proofs.Told.{Told, told_facts, good_count, good_waiting}
-use Rattle.routing_calls.proofs.Sightings.{sight_bad, sight_record, sight_entry, sight_replacement, sight_newcomer}
+use Rattle.routing_calls.specs.declared.Standing.{Standing}
+use Rattle.routing_table.specs.Good.{sized}
+use Rattle.routing_calls.proofs.Told.{entry_used, replacement_used, good_count, good_waiting}
+use Rattle.routing_calls.proofs.Sightings.{sight_bad, sight_record, sight_own, sight_entry, sight_replacement, sight_newcomer}
 use Rattle.routing_calls.proofs.seeing.seen.Goals as goal
-use Rattle.routing_calls.proofs.seeing.seen.Goals.{Else-not-record_fits, Else-not-told, Start}
-
-arrays : (c : Start) → Sized c.args.table
-arrays c = record { entries = search (rules, length_mapped); replacements = search (rules, length_mapped) }
-
--- where the table is good
-told : (c : Else-not-told) → Told c.args.table c.args.contact.id c.survey-told.result
-told c = told_facts _ _ _ c.survey-told.ensures (not-false _ c.if-not-told.false)
+use Rattle.routing_calls.proofs.seeing.seen.Goals.{Else-not-record_fits}
 
 -- and the record fits
 fits : (c : Else-not-record_fits) → sized c.args.contact ≡ true
@@ -27,42 +22,58 @@ fits c =
     let e = sym c.record_fits.ensures ∙ c.if-not-record_fits.false in
     search rules
 
-pub returns-then-not-told : goal.returns-then-not-told
-returns-then-not-told c =
-    let e = c.survey-told.ensures in
-    ap meaning_of c.refused.ensures ∙ sight_bad _ _ _ (search rules) (sym (survey_good _ _ _ e) ∙ not-true _ c.if-not-told.true)
+pub returns-in_err-told : goal.returns-in_err-told
+returns-in_err-told c =
+    let bad = c.in_err-told.ensures in
+    let r : c.from_residual.result ≡ Err BadState = search rules in
+    ap (λ (x : Result Standing Refusal). meaning_of x c.args.table.now) r ∙ sight_bad _ _ _ (search rules) bad.1
 
 pub returns-then-not-record_fits : goal.returns-then-not-record_fits
 returns-then-not-record_fits c =
     let e = sym c.record_fits.ensures ∙ c.if-not-record_fits.true in
     let bad : sized c.args.contact ≡ false = search rules in
-    ap meaning_of c.refused-then-not-record_fits.ensures ∙ sight_record _ _ _ (search rules) (told (goal.at.returns-then-not-record_fits c).Else-not-told).kept bad
+    sight_record _ _ _ (search rules) c.in_ok-told.ensures.kept bad
 
-pub entry_put-requires : goal.entry_put-requires
-entry_put-requires c =
-    let n = good_count _ (told (goal.at.entry_put-requires c).Else-not-told).kept in
+pub returns-then-told : goal.returns-then-told
+returns-then-told c =
+    let t = c.in_ok-told.ensures in
+    sight_own _ _ _ (search rules) t.kept (fits (goal.at.returns-then-told c).Else-not-record_fits) (sym t.own ∙ search rules)
+
+pub offset_bounds-table-at : goal.offset_bounds-table-at
+offset_bounds-table-at c =
+    let t = c.in_ok-told.ensures in
+    let used = entry_used c.args.table.now _ _ t.entry c.in-Some.is in
+    let few = good_count _ t.kept in
+    let below : c.in-Some.at < 128 = omega arith in
     search rules
 
-pub returns-then-told-table : goal.returns-then-told-table
-returns-then-told-table c =
-    let t = told (goal.at.returns-then-told-table c).Else-not-told in
-    ap meaning_of c.entry.ensures
-    ∙ sight_entry _ _ t.kept (fits (goal.at.returns-then-told-table c).Else-not-record_fits) (sym t.own ∙ search rules) (arrays (goal.at.returns-then-told-table c).Start) _ _ _ c.entry_put.ensures (search rules) (search rules)
-    (search rules)
+pub bounds-table-at : goal.bounds-table-at
+bounds-table-at c =
+    let t = c.in_ok-told.ensures in
+    omega (arith, entry_used c.args.table.now _ _ t.entry c.in-Some.is, good_count _ t.kept)
+
+pub returns-in-Some : goal.returns-in-Some
+returns-in-Some c =
+    let t = c.in_ok-told.ensures in
+    sight_entry _ _ t.kept (fits (goal.at.returns-in-Some c).Else-not-record_fits) (sym t.own ∙ search rules) t.sized
+    _ _ t.entry c.in-Some.is (search rules)
 
 pub latest-requires : goal.latest-requires
-latest-requires c = (search rules, good_waiting _ (told (goal.at.latest-requires c).Else-not-told).kept)
+latest-requires c =
+    let t = c.in_ok-told.ensures in
+    (replacement_used c.args.table.now _ _ t.replacement c.in-Some-replacement.is, good_waiting _ t.kept)
 
-pub returns-then-told-table-2 : goal.returns-then-told-table-2
-returns-then-told-table-2 c =
-    let t = told (goal.at.returns-then-told-table-2 c).Else-not-told in
-    sight_replacement _ _ t.kept (fits (goal.at.returns-then-told-table-2 c).Else-not-record_fits) (sym t.own ∙ search rules) _ t.entry (search rules) _ (search rules) _ c.latest.ensures (search rules)
+pub returns-in-Some-replacement : goal.returns-in-Some-replacement
+returns-in-Some-replacement c =
+    let t = c.in_ok-told.ensures in
+    sight_replacement _ _ t.kept (fits (goal.at.returns-in-Some-replacement c).Else-not-record_fits) (sym t.own ∙ search rules)
+    _ t.entry c.in_default.is _ t.replacement t.sized _ _ c.latest.ensures c.in-Some-replacement.is (search rules)
 
 pub newcomer-requires : goal.newcomer-requires
-newcomer-requires c =
-    record { good_value = not-false _ c.if-not-told.false; told_value = c.survey-told.ensures }
+newcomer-requires c = c.in_ok-told.ensures
 
 pub returns : goal.returns
 returns c =
-    let t = told (goal.at.returns c).Else-not-told in
-    sight_newcomer _ _ t.kept (fits (goal.at.returns c).Else-not-record_fits) (sym t.own ∙ search rules) _ t.entry (search rules) _ t.replacement c.newcomer.result c.newcomer.ensures (search rules)
+    let t = c.in_ok-told.ensures in
+    sight_newcomer _ _ t.kept (fits (goal.at.returns c).Else-not-record_fits) (sym t.own ∙ search rules)
+    _ t.entry c.in_default.is _ t.replacement c.newcomer.ensures c.in_default-replacement.is

@@ -1,26 +1,15 @@
--- What the check does not find alone of `routing_table::scans::place`; the invariants beside it say how the loop goes. Assumes nothing.
-use mathlib.Core.List.{[]}
-use native.Mathlib.Omega.{arith}
-use mathlib.Core.Path.{sym, ◌∙◌}
+-- What the check does not find alone of `routing_table::scans::place`: what the search says of each place. Assumes nothing.
+use mathlib.Core.Path.{◌≡◌, refl}
 use borrow.Author.Rules.{rules}
-use Rattle.octets.specs.Equal.{same_bytes}
-use Rattle.routing_table.proofs.Passes.{first_here, first_later, first_end}
+use Rattle.std.specs.Prelude.{None, Some}
+use Rattle.std.proofs.iter.runs.Made.{chains}
+use Rattle.routing_table.proofs.Passes.{first_from, FirstAt}
 use Rattle.routing_table.proofs.scans.place.Goals as goal
 
-pub returns-then-same_id : goal.returns-then-same_id
-returns-then-same_id c =
-    let a = c.args in
-    let here = first_here same_bytes a.id _ a.ids.now c.loop-i.i (search rules) (sym c.same_id.ensures ∙ c.if-same_id.true) in
-    omega arith
-
-pub loop-i-preserved : goal.loop-i-preserved
-loop-i-preserved c =
-    let a = c.args in
-    let later = first_later same_bytes a.id _ a.ids.now c.loop-i.i (search rules) (sym c.same_id.ensures ∙ c.if-same_id.false) in
-    (omega arith, c.loop-i.invariant.1, omega arith)
-
 pub returns : goal.returns
-returns c =
+returns g c =
     let a = c.args in
-    let end = first_end same_bytes a.id [] a.ids.now c.loop-i.i (search rules) in
-    omega arith
+    first_from g.T.PartialEq.eq a.item.now a.items.now a.item.now c.position.result (elim c.position.result as (λ r. c.position.result ≡ r → FirstAt g.T.PartialEq.eq a.item.now a.items.now a.item.now r) [
+      | None ↦ λ e k h. search (rules, chains)
+      | Some i ↦ λ e. search (rules, chains)
+    ] refl)

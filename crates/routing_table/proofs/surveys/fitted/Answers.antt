@@ -9,8 +9,7 @@ pub returns-then-not-fit : goal.returns-then-not-fit
 returns-then-not-fit c =
     λ v o i l m.
     let a = c.args in
-    c.nothing.ensures
-    ∙ misfit v a.own a.id a.ids.now a.logs.now a.middle o i l m (sym c.fit.ensures ∙ c.if-not-fit.true)
+    misfit v a.own a.id a.ids.now a.logs.now a.middle o i l m (sym c.fit.ensures ∙ c.if-not-fit.true)
 
 pub returns : goal.returns
 returns c =

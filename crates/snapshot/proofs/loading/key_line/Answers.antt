@@ -1,12 +1,28 @@
--- `snapshot::loading::key_line` meets its contract: what was read and tested is the law `key_read` (`proofs/Reading.antt`). Assumes nothing.
+-- `loading::key_line` meets its contract: each way out is a law of the reading of a key's line (`proofs/Reading.antt`). Assumes nothing.
+use mathlib.Core.Path.{sym, ◌∙◌}
 use lib.ListN.{drop}
-use Rattle.snapshot.proofs.Reading.{key_read}
 use borrow.Author.Rules.{rules}
+use Rattle.snapshot.proofs.Reading.{key_none, key_mark, key_fails, key_whole}
 use Rattle.snapshot.proofs.loading.key_line.Goals as goal
+
+pub returns-in_err-frame : goal.returns-in_err-frame
+returns-in_err-frame c =
+    let h = c.args.header.now in
+    c.from_residual.ensures ∙ key_none h.node h.cap c.args.last (drop c.args.at c.args.text.now) (sym c.read_frame.ensures ∙ c.in_err-frame.was)
+
+pub returns-then-frame-ne2 : goal.returns-then-frame-ne2
+returns-then-frame-ne2 c =
+    let h = c.args.header.now in
+    key_mark h.node h.cap c.args.last (drop c.args.at c.args.text.now) c.in_ok-frame.frame (sym c.read_frame.ensures ∙ c.in_ok-frame.was) c.if-frame-ne2.true
+
+pub returns-then-not-key_passes : goal.returns-then-not-key_passes
+returns-then-not-key_passes c =
+    let h = c.args.header.now in
+    key_fails h.node h.cap c.args.last (drop c.args.at c.args.text.now) c.in_ok-frame.frame (sym c.read_frame.ensures ∙ c.in_ok-frame.was) c.if-frame-ne2.false
+    (search rules) _ _ c.part-key.ensures c.away-far.ensures (sym c.key_passes.ensures ∙ c.if-not-key_passes.true)
 
 pub returns : goal.returns
 returns c =
-    let a = c.args in
-    let read = c.read_frame-framed in
-    key_read a.node a.cap a.first a.last (drop a.at a.text.now) _ _ _ _ _ _ read.ensures.value read.ensures.frame_after (search rules)
-    c.part9-key.ensures c.away-far.ensures c.key_passes-keeps.ensures c.passes-good.ensures
+    let h = c.args.header.now in
+    key_whole h.node h.cap c.args.last (drop c.args.at c.args.text.now) c.in_ok-frame.frame (sym c.read_frame.ensures ∙ c.in_ok-frame.was) c.if-frame-ne2.false
+    (search rules) _ _ c.part-key.ensures c.away-far.ensures (sym c.key_passes.ensures ∙ c.if-not-key_passes.false)

@@ -1,4 +1,4 @@
--- `snapshot::saving::write_key` meets its contract: the pieces of the line make it up (`key_placed` of `proofs/Writing.antt`). Assumes nothing.
+-- `saving::write_key` meets its contract: the pieces of the line make it up (`key_placed` of `proofs/Writing.antt`). Assumes nothing.
 use Rattle.snapshot.proofs.Writing.{key_placed}
 use borrow.Author.Rules.{rules}
 use Rattle.snapshot.proofs.saving.write_key.Goals as goal

@@ -4,15 +4,11 @@ use native.Mathlib.Omega.{arith}
 use mathlib.Core.Path.{◌≡◌, sym, ap, ap₂, ◌∙◌}
 use mathlib.Core.Bool.{Bool, true, false}
 use mathlib.Core.List.{List}
-use lib.Dec.{eqb}
 use lib.ListN.{length}
 use borrow.Author.Tests.{eqb-true, lt-ltb, le-ltb}
 use Rattle.refusal.specs.Says.{Said, only}
 use Rattle.refusal.specs.Outcome.{given, refusal}
-use lib.Pointwise.{pointwise}
-use Rattle.std.specs.Prelude.{nat_eq}
 use Rattle.octets.specs.Equal.{same_bytes}
-use Rattle.octets.proofs.Equal.{same_pointwise}
 use Rattle.octets.specs.Parts.{bytes_at}
 use Rattle.octets.proofs.Tests.{both}
 use Rattle.octets.proofs.Parts.{bytes_at_all, bytes_at_part}
@@ -50,8 +46,8 @@ module _ (number : ℕ) (hash proof roots : List ℕ) where
         e ∙ ap (λ (k : ℕ). bytes_at 32 k roots) f ∙ bytes_at_part 32 (32 * epoch_of number) roots (omega (arith, lent))
 
     -- past the tests: whether these two are the same
-    pub judged : (computed wanted : List ℕ) (same : Bool) → same ≡ pointwise nat_eq computed wanted → computed ≡ root_along (hash_index number) hash (chunks_of 15 proof)
+    pub judged : (computed wanted : List ℕ) (same : Bool) → same ≡ same_bytes computed wanted → computed ≡ root_along (hash_index number) hash (chunks_of 15 proof)
         → wanted ≡ root_at roots (epoch_of number) → given same ≡ canonical_of number hash proof roots
     unfolding canonical_of is_canonical
     judged computed wanted same is e f =
-        ap given (is ∙ same_pointwise computed wanted ∙ ap₂ same_bytes e f) ∙ sym (rw (good, lt-ltb (epoch_of number) (length roots / 32) lent))
+        ap given (is ∙ ap₂ same_bytes e f) ∙ sym (rw (good, lt-ltb (epoch_of number) (length roots / 32) lent))

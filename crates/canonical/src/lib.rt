@@ -24,7 +24,7 @@ pub fn canonical(number: u64, hash: &[u8], proof: &[u8], roots: &[u8]) -> Result
     let leaf = octets::part::<32>(hash, 0);
     let computed = root_along(32768 + 2 * (number % 8192), leaf, proof);
     let wanted = octets::part::<32>(roots, 32 * epoch as usize);
-    Ok(computed == wanted)
+    Ok(octets::same(&computed, &wanted))
 }
 
 // Whether the lengths are right: a hash, 15 siblings, at most 2,048 whole roots.

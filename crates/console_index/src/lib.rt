@@ -6,7 +6,7 @@
 use console_text::buffers::{Buffer, Buffers};
 use console_text::bytes::Answer;
 use console_text::fault::Fault;
-use console_text::shown::{Bars, Hex};
+use console_text::shown::{Bars, Hex, Keys};
 use console_text::words::Words;
 use key_index::KeyIndex;
 
@@ -66,11 +66,7 @@ pub fn radius(index: &KeyIndex, words: Words<'_>, out: &mut Answer) -> Result<()
 // keys
 pub fn keys(index: &KeyIndex, words: Words<'_>, out: &mut Answer) -> Result<(), Fault> {
     words.end()?;
-    out.say(format_args!("keys {}", index.count));
-    for key in index.held() {
-        out.say(format_args!(" {}", Hex(key)));
-    }
-    out.line("");
+    out.line(format_args!("keys {}{}", index.count, Keys(index.held())));
     Ok(())
 }
 

@@ -4,7 +4,7 @@
 #![tactic(auto)]
 
 use console_text::buffers::{Buffer, Buffers};
-use console_text::bytes::{Answer, Bytes};
+use console_text::bytes::Answer;
 use console_text::fault::Fault;
 use console_text::shown::Word;
 use console_text::words::{Words, back, front};
@@ -13,22 +13,34 @@ use routing_table::RoutingTable;
 use std::fmt;
 
 // What is lent to replies: our own record, a connection id and content, with more room than a reply takes.
-#[derive(Drop)]
+// Kept: it can be copied, which `Bytes` cannot, so bytes stand in arrays with their number beside them.
+#[derive(Clone, Copy)]
 pub struct Lent {
-    own: Bytes<512>,
+    own: [u8; 512],
+    own_len: usize,
     connection: [u8; 4],
-    content: Bytes<2048>,
+    content: [u8; 2048],
+    content_len: usize,
 }
 
 impl Lent {
     // No record, a connection id of zero, and no content.
     pub fn new() -> Lent {
         Lent {
-            own: Bytes::new(),
+            own: [0; 512],
+            own_len: 0,
             connection: [0; 4],
-            content: Bytes::new(),
+            content: [0; 2048],
+            content_len: 0,
         }
     }
+}
+
+// Puts bytes that have room at the start of a place, and answers their number.
+fn put(bytes: &[u8], place: &mut [u8]) -> Result<usize, Fault> {
+    let room = place.get_mut(..bytes.len()).ok_or(Fault::NoCall)?;
+    room.copy_from_slice(bytes);
+    Ok(bytes.len())
 }
 
 // own RECORD
@@ -40,7 +52,7 @@ pub fn own(
 ) -> Result<(), Fault> {
     let record = words.bytes(&mut buffers.data)?;
     words.end()?;
-    lent.own = Bytes::try_from(record)?;
+    lent.own_len = put(record, &mut lent.own)?;
     out.line("ok");
     Ok(())
 }
@@ -55,7 +67,7 @@ pub fn lend(
     let connection = words.value::<4>()?;
     let content = words.bytes(&mut buffers.data)?;
     words.end()?;
-    lent.content = Bytes::try_from(content)?;
+    lent.content_len = put(content, &mut lent.content)?;
     lent.connection = connection;
     out.line("ok");
     Ok(())
@@ -74,8 +86,8 @@ pub fn reply(
     let message = words.bytes(&mut buffers.data)?;
     words.end()?;
     let lent = reply::Lent {
-        own: lent.own.as_slice(),
-        content: lent.content.as_slice(),
+        own: front(&lent.own, lent.own_len),
+        content: front(&lent.content, lent.content_len),
         connection: lent.connection,
     };
     let made = reply::reply(index, table, lent, message, buffer.lent())?;

@@ -8,7 +8,7 @@ use std::marker::Model;
 
 // At most N bytes.
 // Kept: no heap, so the bytes stand in an array with their number beside them; contracts see them as a list.
-#[derive(Drop)]
+#[derive(Clone, Drop)]
 pub struct Bytes<const N: usize> {
     bytes: [u8; N],
     len: usize,

@@ -1,35 +1,25 @@
 // The words of a line, which one space separates.
 ghost use Rattle.std.specs.Prelude.{◌≡◌, ◌<◌, ◌≤◌, ◌↔◌, ℕ, List, [], ◌∷◌, length, MatchOption, MatchResult, IsOk, IfOk, count_by, ◌==◌, ◌+◌, take, drop, position, cond, leb};
-ghost use Rattle.console_text.specs.Words.{word_end, words_of};
+ghost use Rattle.console_text.specs.Words.{word_end, words_of, left_of};
 
 use crate::fault::Fault;
 use hexadecimal::DecodeError;
-use std::marker::Model;
 
 // How many words a line may have.
 pub const MOST: usize = 40;
 
 // The words that are left of a line.
-#[derive(Drop)]
+#[derive(Clone, Copy)]
 pub struct Words<'a> {
     rest: &'a [u8],
     left: usize,
-}
-
-impl<'a> Model for Words<'a> {
-    ghost use Rattle.std.specs.Prelude.{ℕ, List};
-    ghost use Rattle.console_text.specs.Words.{words_in};
-
-    ghost Value = { List (List ℕ) };
-
-    ghost view = { λ w. words_in w.left w.rest.now };
 }
 
 impl<'a> Words<'a> {
     // The words of a line. A line of more than 40 is no call.
     #[tactic(auto, using(crate::proofs::Cuts::length_words))]
     pub fn new(line: &'a [u8]) -> Result<Words<'a>, Fault>
-        ensures { MatchResult result (λ w. w ≡ words_of line.now) (λ _. 40 < length (words_of line.now)) }
+        ensures { MatchResult result (λ w. left_of w ≡ words_of line.now) (λ _. 40 < length (words_of line.now)) }
     {
         let spaces = spaces(line);
         if MOST <= spaces {
@@ -43,7 +33,7 @@ impl<'a> Words<'a> {
 
     // The next word.
     pub fn word(&mut self) -> Result<&'a [u8], Fault>
-        ensures { MatchResult result (λ w. self.old ≡ w.now ∷ self.new) (λ _. self.old ≡ []) }
+        ensures { MatchResult result (λ w. left_of self.old ≡ w.now ∷ left_of self.new) (λ _. left_of self.old ≡ []) }
     {
         self.next().ok_or(Fault::NoCall)
     }
@@ -51,7 +41,7 @@ impl<'a> Words<'a> {
     // No word is left.
     #[tactic(auto, using(crate::proofs::Cuts::none_left))]
     pub fn end(&self) -> Result<(), Fault>
-        ensures { IsOk result ↔ (self.now ≡ []) }
+        ensures { IsOk result ↔ (left_of self.now ≡ []) }
     {
         if 0 < self.left {
             return Err(Fault::NoCall);
@@ -114,13 +104,14 @@ fn space(text: &[u8]) -> Option<usize>
 }
 
 impl<'a> Iterator for Words<'a> {
+    ghost use Rattle.console_text.specs.Words.{left_of};
     ghost use Rattle.std.specs.Iterator.{YieldsFirstBy, item_count};
 
     type Item = &'a [u8];
 
-    ghost next_gives = { YieldsFirstBy (λ w. w.now) (λ words. words) };
+    ghost next_gives = { YieldsFirstBy (λ w. w.now) left_of };
 
-    ghost remaining = { item_count (λ words. words) };
+    ghost remaining = { item_count left_of };
 
     #[tactic(auto, using(crate::proofs::Cuts::one_word))]
     fn next(&mut self) -> Option<&'a [u8]> {

@@ -1,13 +1,13 @@
 -- A character and the number that it stands for.
 use Prim.Native.Nat.{ℕ, ◌+◌, ◌-◌, ◌≤◌, ◌<◌}
-use mathlib.Core.Bool.{Bool, true, false, ◌&&◌}
-use mathlib.Core.Path.{◌≡◌, refl, ap, ◌∙◌}
+use mathlib.Core.Bool.{Bool, true, false, cond, ◌&&◌, ◌||◌, true≢false}
+use mathlib.Core.Path.{◌≡◌, refl, sym, ap, ◌∙◌}
 use mathlib.Core.Logic.{◌⊎◌, inl, inr, ⊎_elim}
 use native.Mathlib.Omega.{arith}
-use lib.Dec.{leb, ltb, lit<}
+use lib.Dec.{leb, ltb}
 use borrow.Author.Tests.{lt-ltb, le-ltb, le-leb, lt-leb, ltb-true, ltb-false, leb-true, leb-false}
-use Rattle.hexadecimal.specs.Digits.{digit_of, value_of, number_of}
-use Rattle.std.specs.Prelude.{Option, Some, None, unwrap_or}
+use Rattle.hexadecimal.specs.Digits.{digit_of, value_of, is_digit, number_of}
+use Rattle.std.specs.Prelude.{Some, None}
 
 -- `0` to `9` stand for 0 to 9
 pub value_of_decimal : (c : ℕ) → 48 ≤ c → c ≤ 57 → value_of c ≡ Some (c - 48)
@@ -83,15 +83,25 @@ digit_of_value c n e = ⊎_elim decimal (λ d. ⊎_elim (letter d) (other d) (ra
         let clash : ◌≡◌ {A = ℕ} 0 1 = cc in
         absurd (omega arith)
 
--- a digit's number is below 16
-pub number_small : (c : ℕ) → number_of (value_of c) < 16
-number_small c = go (value_of c) refl
+-- whether a character is a digit, by its two ranges
+pub digit_test : (c : ℕ) → ((leb 48 c && leb c 57) || (leb 97 c && leb c 102)) ≡ is_digit (value_of c)
+unfolding value_of
+digit_test c = go (leb 48 c && leb c 57) (leb 97 c && leb c 102)
   where
-    go : (o : Option ℕ) → value_of c ≡ o → number_of o < 16
-    go (Some n) e = (digit_of_value c n e).1
-    go None e = lit< tt
+    go : (d l : Bool) → (d || l) ≡ is_digit (cond d (Some (c - 48)) (cond l (Some (c - 87)) None))
+    go true l = refl
+    go false true = refl
+    go false false = refl
 
--- a number or 0 where there is none, as std has it
-pub unwrapped : (o : Option ℕ) (n : ℕ) → n ≡ unwrap_or o 0 → n ≡ number_of o
-unwrapped (Some m) n e = e
-unwrapped None n e = e
+-- a digit is in one of them
+digit_in : (c : ℕ) → is_digit (value_of c) ≡ true → ((48 ≤ c) × (c ≤ 57)) ⊎ ((97 ≤ c) × (c ≤ 102))
+digit_in c e = ⊎_elim inl (λ d. ⊎_elim inr (λ l. absurd (true≢false (sym e ∙ ap is_digit (value_of_other c d l)))) (range 97 102 c)) (range 48 57 c)
+
+-- what a digit up to `9` stands for
+pub decimal_number : (c : ℕ) → is_digit (value_of c) ≡ true → c ≤ 57 → (48 ≤ c) × (number_of (value_of c) ≡ c - 48)
+decimal_number c e h = ⊎_elim (λ d. (d.0, ap number_of (value_of_decimal c d.0 d.1))) (λ l. absurd (omega (arith, l.0))) (digit_in c e)
+
+-- and what one behind it does
+pub letter_number : (c : ℕ) → is_digit (value_of c) ≡ true → 57 < c → (97 ≤ c) × (c ≤ 102) × (number_of (value_of c) ≡ c - 87)
+letter_number c e h =
+    ⊎_elim (λ d. absurd (omega (arith, d.1))) (λ l. (l.0, l.1, ap number_of (value_of_letter c l.0 l.1))) (digit_in c e)

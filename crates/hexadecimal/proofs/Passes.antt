@@ -4,7 +4,7 @@ use Prim.Native.Nat.{ℕ, zero, suc, ◌+◌, ◌-◌, ◌*◌, ◌/◌, ◌%◌
 use mathlib.Core.Bool.{Bool, true, false, cond, ◌&&◌, and_assoc, and-true}
 use mathlib.Core.List.{List, [], ◌∷◌, ◌++◌, map}
 use Rattle.std.specs.Prelude.{Option, Some, None, Ok, Err}
-use mathlib.Core.Path.{◌≡◌, refl, ap, ap₂, sym, ◌∙◌}
+use mathlib.Core.Path.{◌≡◌, refl, ap, ap₂, sym, ◌∙◌, subst}
 use native.Mathlib.Nat.{zero-add}
 use native.Mathlib.Numerals.{add-one}
 use native.Mathlib.Omega.{arith}
@@ -16,6 +16,7 @@ use lib.Dec.{leb}
 use borrow.Author.Tests.{le-leb, lt-leb}
 use Rattle.hexadecimal.specs.Digits.{digit_of, value_of, text_of, bytes_of, is_digit, number_of, all_digits}
 use Rattle.octets.specs.Buffer.{has_room}
+use Rattle.octets.proofs.Tests.{both}
 use Rattle.octets.proofs.Buffers.{too_long, fits, not_placed, placed_all}
 use Rattle.hexadecimal.specs.Buffer.{encoded_to, decoded_to, decoded_of, filled, filled_of}
 use Rattle.hexadecimal.specs.declared.DecodeError.TheVariants.{NotHex, NoRoom}
@@ -68,6 +69,10 @@ put_text d at bs i small room out before h l of-h of-l =
 abbrev pub byte_of : List ℕ → ℕ
 byte_of pair = number_of (value_of (get_or pair 0 0)) * 16 + number_of (value_of (get_or pair 1 0))
 
+-- both characters of a pair are digits
+abbrev pub BothDigits : List ℕ → Type 0
+BothDigits pair = (is_digit (value_of (get_or pair 0 0)) ≡ true) × (is_digit (value_of (get_or pair 1 0)) ≡ true)
+
 -- the bytes of a text are those of its pairs
 pairs_mapped : (text : List ℕ) → pairs_of text ≡ map byte_of (first_chunks 2 (length text / 2) text)
 pairs_mapped [] = refl
@@ -75,6 +80,27 @@ pairs_mapped (c ∷ []) = refl
 pairs_mapped (h ∷ l ∷ text) =
     let more : suc (suc (length text)) / 2 ≡ suc (length text / 2) = omega arith in
     rw (more, pairs_mapped text)
+
+-- where all characters are digits, so are both of each pair
+pub digits_paired : (text : List ℕ) (pairs : List (List ℕ)) → pairs ≡ first_chunks 2 (length text / 2) text → all_digits text ≡ true
+    → (i : ℕ) → i < length pairs → BothDigits (get_or pairs i [])
+digits_paired text pairs are all = subst (λ (ps : List (List ℕ)). (i : ℕ) → i < length ps → BothDigits (get_or ps i [])) (sym are) (go text all)
+  where
+    go : (text : List ℕ) → all_digits text ≡ true → (i : ℕ) → i < length (first_chunks 2 (length text / 2) text)
+        → BothDigits (get_or (first_chunks 2 (length text / 2) text) i [])
+    go [] all i h = absurd (omega arith)
+    go (c ∷ []) all i h = absurd (omega arith)
+    go (a ∷ b ∷ text) all zero h =
+        let more : suc (suc (length text)) / 2 ≡ suc (length text / 2) = omega arith in
+        let first : (is_digit (value_of a) ≡ true) × ((is_digit (value_of b) && all_digits text) ≡ true) = both _ _ all in
+        rw more (first.0, (both _ _ first.1).0)
+    go (a ∷ b ∷ text) all (suc i) h =
+        let more : suc (suc (length text)) / 2 ≡ suc (length text / 2) = omega arith in
+        let rest : all_digits text ≡ true = (both _ _ (both _ _ all).1).1 in
+        let there : suc i < suc (length (first_chunks 2 (length text / 2) text)) =
+        subst (λ (n : ℕ). suc i < length (first_chunks 2 n (a ∷ b ∷ text))) more h in
+        let less : i < length (first_chunks 2 (length text / 2) text) = omega arith in
+        rw more (go text rest i less)
 
 -- two characters make a byte
 pub length_pairs : (text : List ℕ) → length (pairs_of text) ≡ length text / 2

@@ -11,10 +11,13 @@ ghost use Rattle.hexadecimal.specs.Buffer.{encoded_to, decoded_of, filled_of};
 pub fn value(c: u8) -> Option<u8>
     ensures { result ≡ value_of c }
 {
-    match c {
-        b'0'..=b'9' => Some(c - b'0'),
-        b'a'..=b'f' => Some(c - b'a' + 10),
-        _ => None,
+    // Kept: no `match` on ranges, which goes by branches that no machine foresees.
+    if b'0' <= c && c <= b'9' {
+        Some(c - b'0')
+    } else if b'a' <= c && c <= b'f' {
+        Some(c - (b'a' - 10))
+    } else {
+        None
     }
 }
 
@@ -75,18 +78,21 @@ fn all_digits(text: &[u8]) -> bool
     text.iter().fold(true, |all, c| all & is_digit(*c))
 }
 
-// Whether a character is a digit.
+// Whether a character is a digit, with no branch.
 fn is_digit(c: u8) -> bool
     ensures { result ≡ is_digit (value_of c) }
 {
-    value(c).is_some()
+    let decimal = (b'0' <= c) & (c <= b'9');
+    let letter = (b'a' <= c) & (c <= b'f');
+    decimal | letter
 }
 
-// The number that a digit stands for, and 0 for another character.
+// The number that a digit stands for.
 fn number(c: u8) -> u8
+    requires { is_digit (value_of c) ≡ true }
     ensures { (result ≡ number_of (value_of c)) × (result < 16) }
 {
-    value(c).unwrap_or(0)
+    if c <= b'9' { c - b'0' } else { c - (b'a' - 10) }
 }
 
 // The digit for a number below 16.

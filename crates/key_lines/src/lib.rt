@@ -126,26 +126,18 @@ fn first_feed(text: &[u8]) -> Option<usize>
 fn feed(line: Line, part: &[u8]) -> Line
     ensures { (text : List ℕ) → Begun line text → Begun result (text ++ part.now) }
 {
-    let mut line = line;
-    for c in part {
-        line = longer(line, *c);
-    }
-    line
-}
-
-// The line with one character more.
-fn longer(line: Line, c: u8) -> Line
-    ensures { (text : List ℕ) → Begun line text → Begun result (text ++ (c ∷ [])) }
-{
+    // Kept: the line's parts go on apart, since a line that is changed in place is written to memory at each character.
     let mut first = line.first;
-    if line.len < 18 {
-        first[line.len] = c;
+    let mut len = line.len;
+    let mut bad = line.bad;
+    for c in part {
+        if len < 18 {
+            first[len] = *c;
+        }
+        len = capped_more(len);
+        bad = worse(bad, *c);
     }
-    Line {
-        first,
-        len: capped_more(line.len),
-        bad: worse(line.bad, c),
-    }
+    Line { first, len, bad }
 }
 
 // A length, capped, with one character more.

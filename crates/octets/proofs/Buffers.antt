@@ -1,11 +1,13 @@
 -- Bytes put into a buffer: whether they have room, and what the buffer then holds. Assumes nothing.
 use Prim.Native.Nat.{ℕ, ◌+◌, ◌-◌, ◌<◌, ◌≤◌}
 use native.Mathlib.Omega.{arith}
-use mathlib.Core.Path.{◌≡◌, sym, ap, ◌∙◌}
+use mathlib.Core.Path.{◌≡◌, sym, ap, ap₂, ◌∙◌}
 use mathlib.Core.Bool.{Bool, true, false, cond}
-use mathlib.Core.List.{List, ◌++◌}
-use lib.ListN.{length, take, drop}
-use lib.Seq.{paste, take-length}
+use mathlib.Core.List.{List, ◌++◌, append-nil}
+use lib.ListN.{length, get_or, set, take, drop, drop_of_length-le}
+use lib.Seq.{paste, paste-suc, take-length, take_all}
+use native.Mathlib.Nat.{zero-add}
+use native.Mathlib.Numerals.{add-one}
 use borrow.Author.Tests.{le-leb, lt-leb}
 use Rattle.octets.specs.Buffer.{has_room, placed}
 
@@ -43,3 +45,20 @@ module _ (d : List ℕ) (at : ℕ) (bytes : List ℕ) where
       ap (paste d at bytes) last
       ∙ ap (λ (l : List ℕ). take at d ++ l ++ drop (at + length bytes) d) (take-length bytes)
       ∙ placed_by true (fits h)
+
+-- one step of a copy
+pub pasted_next : (d e s : List ℕ) (at j v : ℕ) → at + j < length e → j < length s → v ≡ get_or s j 0 → d ≡ paste e at s j
+    → set d (at + j) v ≡ paste e at s (j + 1)
+pasted_next d e s at j v l k is q =
+    ap₂ (λ (x : List ℕ) (w : ℕ). set x (at + j) w) q is
+    ∙ paste-suc e at s j 0 l k
+    ∙ ap (λ (n : ℕ). paste e at s n) (sym (add-one j))
+
+-- and one from the front
+pub copied_next : (d e s : List ℕ) (j v : ℕ) → j < length e → j < length s → v ≡ get_or s j 0 → d ≡ paste e 0 s j → set d j v ≡ paste e 0 s (j + 1)
+copied_next d e s j v l k is q = ap (λ (n : ℕ). set d n v) (sym (zero-add j)) ∙ pasted_next d e s 0 j v (omega arith) k is q
+
+-- at its end nothing of the first array is left
+pub copied_all : (e s : List ℕ) (j : ℕ) → length e ≤ j → length s ≤ j → paste e 0 s j ≡ s
+copied_all e s j h k =
+    ap₂ (λ (x y : List ℕ). x ++ y) (take_all j s k) (drop_of_length-le e {i = 0 + j} (omega arith)) ∙ append-nil s

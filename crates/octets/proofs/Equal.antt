@@ -1,7 +1,8 @@
 -- The test for equal byte strings says equality, and the test for what is in a list says membership. Each law goes by recursion on
 -- the list, with the cases of one test as a helper. Assumes nothing.
-use Prim.Native.Nat.{ℕ, ◌+◌, ◌<◌, ◌≤◌}
+use Prim.Native.Nat.{ℕ, suc, ◌+◌, ◌<◌, ◌≤◌}
 use native.Mathlib.Numerals.{add-one}
+use native.Mathlib.Omega.{arith}
 use mathlib.Core.Path.{◌≡◌, refl, sym, ap, ap₂, ◌∙◌}
 use mathlib.Core.Bool.{Bool, true, false, ◌&&◌, ◌||◌, true≢false}
 use mathlib.Core.Logic.{◌↔◌, ◌⊎◌, inl, inr}
@@ -12,7 +13,7 @@ use lib.Pointwise.{pointwise}
 use Rattle.std.specs.Prelude.{nat_eq}
 use lib.ListN.{length, get_or, drop, drop_of_length-le}
 use lib.Seq.{drop-cons}
-use borrow.Author.Tests.{eqb-true, eq-eqb}
+use borrow.Author.Tests.{eqb-true, eq-eqb, ne_eqb}
 use Rattle.octets.specs.Equal.{same_bytes, holds}
 
 -- the test is the equality of slices
@@ -104,3 +105,23 @@ module _ {A : Type 0} (same : A → A → Bool) (a : A) (l : List A) (i : ℕ) w
 -- byte strings of different lengths fail the test
 pub differ_length : (xs ys : List ℕ) → (length xs ≡ length ys → ⊥) → same_bytes xs ys ≡ false
 differ_length xs ys n = differ_same xs ys (λ e. n (ap length e))
+
+-- the test of what is left at place i, by the byte there
+module _ (a b : List ℕ) (l : length a ≡ length b) (i : ℕ) where
+  split : i < length a → same_bytes (drop i a) (drop i b) ≡ same_bytes (get_or a i 0 ∷ drop (suc i) a) (get_or b i 0 ∷ drop (suc i) b)
+  split h = ap₂ (λ (xs ys : List ℕ). same_bytes xs ys) (drop-cons a i 0 h) (drop-cons b i 0 (omega arith))
+
+  -- a byte that differs decides it
+  pub same_here : i < length a → (get_or a i 0 ≡ get_or b i 0 → ⊥) → same_bytes (drop i a) (drop i b) ≡ false
+  unfolding same_bytes
+  same_here h n = split h ∙ rw (ne_eqb (get_or a i 0) (get_or b i 0) n)
+
+  -- an equal one leaves it to the rest
+  pub same_later : i < length a → get_or a i 0 ≡ get_or b i 0 → same_bytes (drop i a) (drop i b) ≡ same_bytes (drop (i + 1) a) (drop (i + 1) b)
+  unfolding same_bytes
+  same_later h e = rw add-one (split h ∙ rw (eq-eqb (get_or a i 0) (get_or b i 0) e))
+
+  -- nothing is left at the end
+  pub same_end : length a ≤ i → same_bytes (drop i a) (drop i b) ≡ true
+  unfolding same_bytes
+  same_end h = ap₂ (λ (xs ys : List ℕ). same_bytes xs ys) (drop_of_length-le a h) (drop_of_length-le b {i = i} (omega arith))

@@ -13,7 +13,12 @@ use lib.Seq.{drop-cons, drop-drop}
 use Rattle.octets.specs.Bytes.{le}
 use Rattle.octets.specs.Parts.{bytes_at}
 
--- each of so many bytes
+-- so many bytes
+pub bytes_at_length : (n j : ℕ) (xs : List ℕ) → length (bytes_at n j xs) ≡ n
+bytes_at_length zero j xs = refl
+bytes_at_length (suc n) j xs = ap suc (bytes_at_length n (suc j) xs)
+
+-- each of them
 pub bytes_at_get : (n j : ℕ) (xs : List ℕ) (i : ℕ) → i < n → get_or (bytes_at n j xs) i 0 ≡ get_or xs (j + i) 0
 bytes_at_get zero j xs i h = absurd (omega arith)
 bytes_at_get (suc n) j xs zero h = let e : j ≡ j + 0 = omega arith in ap (λ (k : ℕ). get_or xs k 0) e

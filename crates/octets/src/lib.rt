@@ -1,7 +1,7 @@
 // Bytes: the numbers that lists of them stand for, their order, and the small functions on them that several crates use.
 #![tactic(auto)]
 
-ghost use Rattle.std.specs.Prelude.{◌<◌, ◌≡◌, reverse, length, drop};
+ghost use Rattle.std.specs.Prelude.{◌-◌, ◌<◌, ◌≡◌, reverse, length, drop, get_or};
 ghost use Rattle.octets.specs.Bytes.{le};
 ghost use Rattle.octets.specs.Equal.{same_bytes};
 ghost use Rattle.octets.specs.Parts.{bytes_at};
@@ -16,21 +16,32 @@ pub fn le4(four: [u8; 4]) -> usize
 }
 
 // The bytes in the other order.
+// By place: so 32 bytes are two shuffles, and with `reverse` 16 exchanges of single bytes.
 pub fn reversed<const N: usize>(bytes: [u8; N]) -> [u8; N]
     ensures { result ≡ reverse bytes.entry }
 {
-    let mut out = bytes;
-    out.reverse();
-    out
+    std::array::from_fn(
+        |i|
+            requires { i < N }
+            ensures { result ≡ get_or bytes (N - 1 - i) 0 }
+        { bytes[N - 1 - i] },
+    )
 }
 
 // Whether two byte strings are equal.
-// Kept: docs/DECISIONS.md names it, and edits first-byte-compared and shorter-is-same are about it.
-#[tactic(auto, using(crate::proofs::Equal::same_pointwise))]
+// Kept: a loop and not `==`, so that edits first-byte-compared and shorter-is-same change a fact and not the form; where time matters, `==` compares.
 pub fn same(a: &[u8], b: &[u8]) -> bool
     ensures { result ≡ same_bytes a.now b.now }
 {
-    a == b
+    if a.len() != b.len() {
+        return false;
+    }
+    for i in 0..a.len() {
+        if a[i] != b[i] {
+            return false;
+        }
+    }
+    true
 }
 
 // Puts bytes into a buffer from index `at` on, and answers true; or answers false and leaves the buffer as it is where they have no
@@ -45,7 +56,10 @@ pub fn put(bytes: &[u8], out: &mut [u8], at: usize) -> bool
     if out.len() - at < bytes.len() {
         return false;
     }
-    out[at..at + bytes.len()].copy_from_slice(bytes);
+    // Kept: the archives for C need `memcpy` and `memset` alone, and with `copy_from_slice` they need `memmove` too.
+    for (i, byte) in bytes.iter().enumerate() {
+        out[at + i] = *byte;
+    }
     true
 }
 
@@ -54,10 +68,17 @@ pub fn fill(bytes: &[u8], from: usize, out: &mut [u8])
     ensures { out.new ≡ bytes_at (length out.old) from bytes.now }
 {
     let rest = behind(bytes, from);
-    let n = rest.len().min(out.len());
-    let (front, back) = out.split_at_mut(n);
-    front.copy_from_slice(&rest[..n]);
-    back.fill(0);
+    // Kept: by `copy_from_slice` and `fill` the archives for C would need `memmove`, and `header_bench` `memset`.
+    for i in 0..out.len() {
+        out[i] = byte(rest, i);
+    }
+}
+
+// The byte at an index, and 0 past the end.
+fn byte(bytes: &[u8], i: usize) -> u8
+    ensures { result ≡ get_or bytes.now i 0 }
+{
+    if i < bytes.len() { bytes[i] } else { 0 }
 }
 
 // The bytes from an index on; none past the end.

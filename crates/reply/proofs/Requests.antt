@@ -33,22 +33,22 @@ use Rattle.replies.specs.Content.{content_reply}
 use Rattle.reply.specs.Listing.{listing}
 use Rattle.replies.specs.Reply.{request_of, Lent, reply_to, reply_to_request, agree, reply_of}
 
+-- whether a table is good and of a node, by what the code asks
+module _ (v : View) (node : List ℕ) (s : Option Facts) (is : s ≡ survey_of v node) where
+  pub of_none : s ≡ None → (r : Bool) → r ≡ false → r ≡ (good v && same_bytes v.own node)
+  of_none n r q = q ∙ sym (ap (λ (t : Bool). t && same_bytes v.own node) (survey_none v node s is n))
+
+  pub of_some : (f : Facts) → s ≡ Some f → (r : Bool) → r ≡ f.own → r ≡ (good v && same_bytes v.own node)
+  of_some f g r q =
+      q ∙ ap (λ (x : Facts). x.own) (survey_facts v node s is g) ∙ sym (ap (λ (t : Bool). t && same_bytes v.own node) (survey_good v node s is g))
+
 -- whether index and table agree, by what the code asks
 module _ (limit : ℕ) (held : keys.View) (v : View) (i : Bool) (ins : i ≡ rules.good limit held) where
   pub agree_index : i ≡ false → (r : Bool) → r ≡ false → r ≡ agree limit held v
   agree_index e r q = q ∙ sym (ap (λ (t : Bool). t && good v && same_bytes v.own held.node) (sym ins ∙ e))
 
-  module _ (e : i ≡ true) (s : Option Facts) (is : s ≡ survey_of v held.node) where
-    known : agree limit held v ≡ (good v && same_bytes v.own held.node)
-    known = ap (λ (t : Bool). t && good v && same_bytes v.own held.node) (sym ins ∙ e)
-
-    pub agree_none : s ≡ None → (r : Bool) → r ≡ false → r ≡ agree limit held v
-    agree_none n r q = q ∙ sym (known ∙ ap (λ (t : Bool). t && same_bytes v.own held.node) (survey_none v held.node s is n))
-
-    pub agree_own : (f : Facts) → s ≡ Some f → (r : Bool) → r ≡ f.own → r ≡ agree limit held v
-    agree_own f g r q =
-        q ∙ ap (λ (x : Facts). x.own) (survey_facts v held.node s is g)
-        ∙ sym (known ∙ ap (λ (t : Bool). t && same_bytes v.own held.node) (survey_good v held.node s is g))
+  pub agree_known : i ≡ true → agree limit held v ≡ (good v && same_bytes v.own held.node)
+  agree_known e = ap (λ (t : Bool). t && good v && same_bytes v.own held.node) (sym ins ∙ e)
 
 -- what bytes come to as a request
 empty_request : (m : List ℕ) → length m ≡ 0 → request_of m ≡ refused 1

@@ -3,16 +3,15 @@ ghost use Rattle.std.specs.Prelude.{◌≡◌, true, [], ◌∷◌, length};
 ghost use Rattle.refusal.specs.Outcome.{given};
 ghost use Rattle.content_key.specs.Key.{key_of, key_id};
 ghost use Rattle.message.specs.Values.{found_content};
-ghost use Rattle.key_index.specs.View as keys;
 ghost use Rattle.routing_table.specs.View.{view};
 ghost use Rattle.routing_table.specs.Good.{good};
 ghost use Rattle.replies.specs.Content.{held_reply, nearer_reply, content_reply};
 ghost use Rattle.replies.specs.Reply.{in_room};
 ghost use Rattle.reply.specs.Answer.{Replies};
+ghost use Rattle.reply.specs.Listing.{listing};
 ghost use Rattle.reply.specs.Ready.{Single, one_of};
 
 use crate::{MESSAGES, Messages, groups};
-use key_index::KeyIndex;
 use refusal::Refusal;
 use routing_table::RoutingTable;
 
@@ -21,7 +20,8 @@ const CONTENT: usize = 1267;
 
 // The content or the connection id of a key that is held, or the records of nearer entries.
 pub(crate) fn found(
-    index: &KeyIndex,
+    listed: &[u8],
+    count: usize,
     table: &RoutingTable,
     content: &[u8],
     connection: [u8; 4],
@@ -29,10 +29,10 @@ pub(crate) fn found(
     out: &mut [u8],
 ) -> Result<Messages, Refusal>
     requires { (good (view table.now) ≡ true) × (key_of key.now ≡ given key.now) }
-    ensures { Replies (in_room (length out.old) (content_reply (keys.view index.now) (view table.now) content.now connection key.now)) result out.old out.new }
+    ensures { Replies (in_room (length out.old) (content_reply (listing listed.now count) (view table.now) content.now connection key.now)) result out.old out.new }
 {
     let nine = octets::part(key, 0);
-    match index.find(nine) {
+    match key_index::find(listed, count, nine) {
         Some(_) => held(content, connection, out),
         None => nearer(table, content_key::id(nine), out),
     }

@@ -1,14 +1,16 @@
 // Replies to a neighbour who asks: from the index, the routing table and what the caller lends, all messages of the reply end to end.
 #![tactic(auto)]
 
-ghost use Rattle.std.specs.Prelude.{◌≡◌, true, ◌||◌, eqb, length};
+ghost use Rattle.std.specs.Prelude.{◌≡◌, true, ◌&&◌, ◌||◌, eqb, length};
+ghost use Rattle.octets.specs.Equal.{same_bytes};
 ghost use Rattle.message.specs.Decode.{decode};
 ghost use Rattle.key_index.specs.View as keys;
 ghost use Rattle.routing_table.specs.View.{view};
 ghost use Rattle.routing_table.specs.Good.{good};
-ghost use Rattle.replies.specs.Reply.{agree, reply_of, reply_to_request, in_room};
+ghost use Rattle.replies.specs.Reply.{reply_of, reply_to_request, in_room};
 ghost use Rattle.reply.specs.Answer.{Replies};
 ghost use Rattle.reply.specs.Lending.{lending};
+ghost use Rattle.reply.specs.Listing.{listing};
 
 use key_index::KeyIndex;
 use message::Reading;
@@ -48,7 +50,7 @@ pub fn reply(
 ) -> Result<Messages, Refusal>
     ensures { Replies (in_room (length out.old) (reply_of keys.key_limit (keys.view index.now) (view table.now) (lending lent.entry) message.now)) result out.old out.new }
 {
-    if !agree(index, table) {
+    if !index.is_good() || !is_of(table, index.node) {
         return Err(Refusal::BadState);
     }
     if message.is_empty() {
@@ -60,17 +62,14 @@ pub fn reply(
     if !is_request(message[0]) {
         return Err(Refusal::MessageType);
     }
-    answered(index, table, lent, message, out)
+    answered(&index.keys, index.count, table, lent, message, out)
 }
 
-// Whether an index and a table keep their rules and are of one node.
-fn agree(index: &KeyIndex, table: &RoutingTable) -> bool
-    ensures { result ≡ agree keys.key_limit (keys.view index.now) (view table.now) }
+// Whether a table keeps its rules and is of this node.
+fn is_of(table: &RoutingTable, node: [u8; 32]) -> bool
+    ensures { result ≡ (good (view table.now) && same_bytes (view table.now).own node) }
 {
-    if !index.is_good() {
-        return false;
-    }
-    match table.survey(index.node) {
+    match table.survey(node) {
         Some(told) => told.own,
         None => false,
     }
@@ -83,16 +82,17 @@ fn is_request(kind: u8) -> bool
     kind == 3 || kind == 5
 }
 
-// The reply to any message, from an index and a table that keeps its rules.
+// The reply to any message, from the keys of an index and a table that keeps its rules.
 fn answered(
-    index: &KeyIndex,
+    listed: &[u8],
+    count: usize,
     table: &RoutingTable,
     lent: Lent,
     message: &[u8],
     out: &mut [u8],
 ) -> Result<Messages, Refusal>
     requires { good (view table.now) ≡ true }
-    ensures { Replies (in_room (length out.old) (reply_to_request (keys.view index.now) (view table.now) (lending lent.entry) (decode message.now))) result out.old out.new }
+    ensures { Replies (in_room (length out.old) (reply_to_request (listing listed.now count) (view table.now) (lending lent.entry) (decode message.now))) result out.old out.new }
 {
     match message_read::read(message)? {
         Reading::FindNode { distances } => {
@@ -101,7 +101,15 @@ fn answered(
         }
         Reading::FindContent { key } => {
             let key = &message[key.start..key.start + key.len];
-            content::found(index, table, lent.content, lent.connection, key, out)
+            content::found(
+                listed,
+                count,
+                table,
+                lent.content,
+                lent.connection,
+                key,
+                out,
+            )
         }
         _ => Err(Refusal::MessageType),
     }

@@ -31,6 +31,10 @@ pub(crate) fn replacement_out(table: &mut RoutingTable, at: usize)
     requires { (at < table.old.waiting) × (table.old.waiting ≤ 16) }
     ensures { table.new ≡ replacement_out table.old at }
 {
-    table.replacements.copy_within(at + 1..table.waiting, at);
-    table.waiting -= 1;
+    let last = table.waiting - 1;
+    // Kept: with `copy_within` the archives for C need `memmove`, as at `octets::put`.
+    for i in at..last {
+        table.replacements[i] = table.replacements[i + 1];
+    }
+    table.waiting = last;
 }

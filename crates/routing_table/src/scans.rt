@@ -22,8 +22,7 @@ pub(crate) fn all_different(ids: &[[u8; 32]]) -> bool
 
 // Whether two ids are equal: two wide comparisons, so that the time does not depend on where they differ.
 // Kept: edit last-byte-passed-over is about it.
-#[tactic(auto, using(octets::proofs::Equal::same_pointwise))]
-pub(crate) fn same_id(a: [u8; 32], b: [u8; 32]) -> bool
+fn same_id(a: [u8; 32], b: [u8; 32]) -> bool
     ensures { result ≡ same_bytes a b }
 {
     a == b

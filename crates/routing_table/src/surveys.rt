@@ -90,7 +90,7 @@ fn told<'a>(
         } }
 {
     Facts {
-        own: scans::same_id(own, id),
+        own: octets::same(&own, &id),
         entry: scans::place(entries, &id),
         replacement: scans::place(replacements, &id),
         entries: scans::count(logs, d),

@@ -19,10 +19,9 @@ use Rattle.key_index.specs.Good.{away_from, good}
 use Rattle.key_index.proofs.Chunks.{chunks_more, chunks_only}
 use Rattle.snapshot.specs.Text.{Kind, kind01, kind11, head_size}
 use Rattle.snapshot.specs.Load.{Loading, bad_line, loaded, after_frame, key_in, is_key_line, before, ending, keys_of, node_in, cap_in, count_in, is_header, read_as, kind_in, load_of}
-use Rattle.snapshot.specs.Parts.{lowest, header_said, header_from, key_said, key_line_from}
+use Rattle.snapshot.specs.Parts.{lowest, header_said, header_from, KeyLine, key_said, key_line_from}
 use Rattle.snapshot.specs.Calls.{back, reloaded_by, reload_for}
 use Rattle.snapshot.specs.declared.loading.Header.{Header}
-use Rattle.snapshot.specs.declared.loading.KeyLine.{KeyLine}
 use Rattle.snapshot.proofs.Frames.{framed}
 use Rattle.snapshot.proofs.KeyLines.{key_facts, key_nine}
 use Rattle.snapshot.proofs.RoundTrip.{header_facts}

@@ -7,7 +7,6 @@ use Rattle.key_index.specs.View.{view_of}
 use Rattle.snapshot.specs.Text.{Kind, head_size}
 use Rattle.snapshot.specs.Load.{Loading, bad_line, loaded, is_frame, frame_of, key_in, is_key_line, node_in, cap_in, count_in, is_header}
 use Rattle.snapshot.specs.declared.loading.Header.{Header}
-use Rattle.snapshot.specs.declared.loading.KeyLine.{KeyLine}
 
 -- the frame of n bytes, where the text starts with its line
 unfoldable pub frame_in : ℕ → List ℕ → Option (List ℕ)
@@ -29,6 +28,16 @@ header_said kind text =
 
 unfoldable pub header_from : Kind → List ℕ → Option Header
 header_from kind text = cond (is_header kind text) (Some (header_said kind text)) None
+
+-- a key's line, with the key's distance
+pub record KeyLine : Type 0 where
+  pub key : List ℕ
+  pub far : List ℕ
+
+-- the line of a key that was written, where its distance was answered
+abbrev pub line_with : List ℕ → Option (List ℕ) → Option KeyLine
+line_with key None = None
+line_with key (Some far) = Some (record { key = key; far = far })
 
 -- what a text gives as a key's line, the first one or one after a key at the distance `last`
 abbrev pub key_said : List ℕ → List ℕ → KeyLine

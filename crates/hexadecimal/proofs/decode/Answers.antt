@@ -2,15 +2,17 @@
 use Rattle.std.proofs.Common.{rules, arith, true, false, Some, ◌≡◌, ◌∙◌, sym, length, length-set}
 use Rattle.hexadecimal.specs.Digits.{bytes_of, all_digits}
 use Rattle.hexadecimal.proofs.Texts.{pairs_of, bytes_of_pairs, no_bytes_other, no_bytes_odd}
-use Rattle.hexadecimal.proofs.Passes.{digits_folded, put_byte, length_pairs, not_hex, no_room, put_all}
+use Rattle.hexadecimal.proofs.Passes.{digits_folded, digits_paired, put_byte, length_pairs, not_hex, no_room, put_all}
 use Rattle.hexadecimal.proofs.decode.Goals as goal
 use Rattle.hexadecimal.proofs.decode.Goals.{Else-not-all_digits}
 
--- past the second test the text stands for bytes
+-- past the second test all characters are digits
+digits : (c : Else-not-all_digits) → all_digits c.args.text.now ≡ true
+digits c = sym (digits_folded c.args.text.now) ∙ search rules
+
+-- so the text stands for bytes
 bytes : (c : Else-not-all_digits) → bytes_of c.args.text.now ≡ Some (pairs_of c.args.text.now)
-bytes c =
-    let digits : all_digits c.args.text.now ≡ true = sym (digits_folded c.args.text.now) ∙ search rules in
-    bytes_of_pairs c.args.text.now digits (search rules)
+bytes c = bytes_of_pairs c.args.text.now (digits c) (search rules)
 
 pub returns-then-not-is_empty : goal.returns-then-not-is_empty
 returns-then-not-is_empty c =
@@ -31,6 +33,14 @@ returns-then-out-pairs c =
     let n = length_pairs a.text.now in
     let clauses = no_room a.text.now a.out.now (pairs_of a.text.now) (bytes (goal.at.returns-then-out-pairs c).Else-not-all_digits) (search rules) in
     record { value = clauses.0; out_after = clauses.1 }
+
+pub number-requires : goal.number-requires
+number-requires c =
+    (digits_paired c.args.text.now _ c.as_chunks.ensures.front (digits (goal.at.number-requires c).Else-not-all_digits) c.loop-i.i (search rules)).0
+
+pub number-requires-in-loop-i : goal.number-requires-in-loop-i
+number-requires-in-loop-i c =
+    (digits_paired c.args.text.now _ c.as_chunks.ensures.front (digits (goal.at.number-requires-in-loop-i c).Else-not-all_digits) c.loop-i.i (search rules)).1
 
 pub loop-i-preserved : goal.loop-i-preserved
 loop-i-preserved c =

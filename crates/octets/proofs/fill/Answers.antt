@@ -1,19 +1,29 @@
--- `octets::fill` meets its contract: what is copied, and zeros behind it, are the bytes from the place on. Assumes nothing.
-use Prim.Native.Nat.{ℕ, ◌+◌}
-use native.Mathlib.Omega.{arith}
-use mathlib.Core.Path.{◌≡◌, ◌∙◌, ap, ap₂}
-use mathlib.Core.List.{List, ◌++◌}
-use lib.ListN.{length, take}
+-- What the check does not find alone of `octets::fill`; the invariant beside it says how the loop goes. Assumes nothing.
+use Rattle.std.proofs.Common.{rules, arith, ◌∙◌, sym, ap, length, length-set, get_or, List, ℕ}
+use lib.Seq.{get_or-drop}
 use Rattle.octets.specs.Parts.{bytes_at}
-use Rattle.octets.proofs.Parts.{bytes_at_over}
+use Rattle.octets.proofs.Buffers.{copied_next, copied_all}
+use Rattle.octets.proofs.Parts.{bytes_at_length, bytes_at_get}
 use Rattle.octets.proofs.fill.Goals as goal
+
+pub loop-i-preserved : goal.loop-i-preserved
+loop-i-preserved c =
+    let a = c.args in
+    let n = length a.out.now in
+    let i = c.loop-i.i in (
+      simp length-set (search rules),
+      copied_next c.loop-i.out a.out.now (bytes_at n a.from a.bytes.now) i _ (search rules)
+          (omega (arith, bytes_at_length n a.from a.bytes.now, c.loop-i.invariant.0))
+          (c.byte.ensures
+          ∙ ap (λ (l : List ℕ). get_or l i 0) c.behind-rest.ensures
+          ∙ get_or-drop a.from a.bytes.now i 0
+          ∙ sym (bytes_at_get n a.from a.bytes.now i (search rules))) c.loop-i.invariant.1,
+    )
 
 pub returns : goal.returns
 returns c =
-    let n = c.min-n.result in
-    let k = length c.split_at_mut-front.result.1.now in
-    let rest = c.behind-rest.ensures in
-    let whole : n + k ≡ length c.args.out.now = omega (arith, c.split_at_mut-front.ensures.back_len) in
-    ap₂ (λ (x y : List ℕ). x ++ y) (c.copy_from_slice.ensures.after ∙ ap (take n) rest) (c.fill.ensures.after (λ y e. e))
-    ∙ bytes_at_over n k c.args.from c.args.bytes.now (omega (arith, ap length rest))
-    ∙ ap (λ (m : ℕ). bytes_at m c.args.from c.args.bytes.now) whole
+    let a = c.args in
+    let n = length a.out.now in
+    c.loop-i.invariant.1
+    ∙ copied_all a.out.now (bytes_at n a.from a.bytes.now) c.loop-i.i (search rules)
+    (omega (arith, bytes_at_length n a.from a.bytes.now))

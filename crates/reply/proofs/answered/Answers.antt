@@ -5,12 +5,12 @@ use lib.ListN.{length}
 use Rattle.refusal.specs.declared.Refusal.TheVariants.{MessageType}
 use Rattle.message.specs.declared.Reading.TheVariants.{FindNode, FindContent}
 use Rattle.message_rules.proofs.Places.{part_between}
-use Rattle.key_index.specs.View as keys
 use Rattle.routing_table.specs.View.{view}
 use Rattle.replies.specs.Nodes.{nodes_reply}
 use Rattle.replies.specs.Content.{content_reply}
 use Rattle.replies.specs.Reply.{in_room}
 use Rattle.reply.specs.Lending.{lending}
+use Rattle.reply.specs.Listing.{listing}
 use Rattle.reply.proofs.Answers.{replies_as, refused_replies}
 use Rattle.reply.proofs.Requests.{answered_as, answered_other, read_key}
 use borrow.Author.Rules.{rules}
@@ -39,7 +39,7 @@ returns-in-FindNode c =
     let was : c.read.result ≡ Ok (FindNode part) = search rules in
     replies_as c.nodes.ensures
     (ap (in_room (length a.out.now))
-    (answered_as (keys.view a.index.now) (view a.table.now) (lending a.lent) a.message.now c.read.result c.read.ensures (FindNode part) was
+    (answered_as (listing a.listed.now a.count) (view a.table.now) (lending a.lent) a.message.now c.read.result c.read.ensures (FindNode part) was
     ∙ sym (ap (nodes_reply (view a.table.now) a.lent.own.now) (part_between a.message.now part.start part.len))))
 
 pub returns-in-FindContent : goal.returns-in-FindContent
@@ -49,13 +49,13 @@ returns-in-FindContent c =
     let was : c.read.result ≡ Ok (FindContent part) = search rules in
     replies_as c.found.ensures
     (ap (in_room (length a.out.now))
-    (answered_as (keys.view a.index.now) (view a.table.now) (lending a.lent) a.message.now c.read.result c.read.ensures (FindContent part) was
-    ∙ sym (ap (content_reply (keys.view a.index.now) (view a.table.now) a.lent.content.now a.lent.connection) (part_between a.message.now part.start part.len))))
+    (answered_as (listing a.listed.now a.count) (view a.table.now) (lending a.lent) a.message.now c.read.result c.read.ensures (FindContent part) was
+    ∙ sym (ap (content_reply (listing a.listed.now a.count) (view a.table.now) a.lent.content.now a.lent.connection) (part_between a.message.now part.start part.len))))
 
 pub returns-in_default : goal.returns-in_default
 returns-in_default c =
     let a = c.args in
     refused_replies MessageType a.out.now (search rules)
     (ap (in_room (length a.out.now))
-    (answered_other (keys.view a.index.now) (view a.table.now) (lending a.lent) a.message.now c.read.result c.read.ensures c.in_ok-distances.field-0 (search rules)
+    (answered_other (listing a.listed.now a.count) (view a.table.now) (lending a.lent) a.message.now c.read.result c.read.ensures c.in_ok-distances.field-0 (search rules)
     c.in_default.not-FindNode c.in_default.not-FindContent))

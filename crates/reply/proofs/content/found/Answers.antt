@@ -5,12 +5,12 @@ use Prim.Native.Nat.{ℕ}
 use borrow.Author.Rules.{rules}
 use Rattle.refusal.specs.Outcome.{given}
 use Rattle.content_key.specs.Key.{key_id}
-use Rattle.key_index.specs.View as keys
 use Rattle.key_index.specs.Search.{place_of}
 use Rattle.routing_table.specs.View.{view}
 use Rattle.replies.specs.Content.{nearer_reply}
 use Rattle.replies.specs.Reply.{in_room}
 use Rattle.replies.proofs.Content.{held_so, unheld_so}
+use Rattle.reply.specs.Listing.{listing}
 use Rattle.reply.proofs.Answers.{replies_as}
 use Rattle.reply.proofs.Contents.{nine_is, is_held_lem, not_held}
 use Rattle.reply.proofs.content.found.Goals as goal
@@ -21,14 +21,14 @@ same c = nine_is _ _ c.requires.1 c.part-nine.ensures
 
 pub returns-in-Some : goal.returns-in-Some
 returns-in-Some c =
-    let held = keys.view c.args.index.now in
+    let held = listing c.args.listed.now c.args.count in
     let place : c.find.result ≡ place_of c.part-nine.result held.keys = search rules in
     replies_as c.held.ensures
     (ap (in_room _) (held_so _ _ _ _ _ (is_held_lem held _ _ (same (goal.at.returns-in-Some c).After-part-nine) _ place c.in-Some.is)))
 
 pub returns-in-None : goal.returns-in-None
 returns-in-None c =
-    let held = keys.view c.args.index.now in
+    let held = listing c.args.listed.now c.args.count in
     let place : c.find.result ≡ place_of c.part-nine.result held.keys = search rules in
     replies_as c.nearer.ensures
     (ap (in_room _)
